@@ -52,7 +52,8 @@ fn onto<'f>(
     if way.exact && !kept.operands_fit_into(method.exceptions, &way.frame) {
         return Ok(Landing::Refused);
     }
-    if way.frame.fits_into(method.exceptions, kept) {
+    let fits = way.frame.fits(alloc, merges, method.exceptions, kept)?;
+    if fits {
         return Ok(Landing::Stays);
     }
     if method.is_fixed(at) || !way.frame.has_lengths_of(kept) {

@@ -1,13 +1,14 @@
--- Pieces that were merged before.
-use Rattle.std.proofs.Common.{◌≡◌, ℕ, zero, suc, ◌<◌, List, [], ◌∷◌, ◌++◌, length, get_or, set}
+-- Pieces that were merged before, and kinds that fitted.
+use Rattle.std.proofs.Common.{◌≡◌, ℕ, zero, suc, ◌<◌, true, List, [], ◌∷◌, ◌++◌, length, get_or, set}
 use Rattle.std.proofs.Common.{subst, sym, ap, ◌∙◌, arith}
 use Rattle.par_values.specs.Areas.{Name}
 use Rattle.par_kinds.specs.declared.frame.VKind.{VKind}
-use Rattle.par_frame_pass_laws.specs.Passes.{merge_all}
+use Rattle.par_frame_pass_laws.specs.Passes.{all_into, merge_all}
 use Rattle.par_place_kinds.specs.declared.kind.PlaceKind.{PlaceKind}
+use Rattle.par_frame_steps.specs.declared.fits.Fit.{Fit}
 use Rattle.par_frame_steps.specs.declared.merges.Merge.{Merge}
 use Rattle.par_frame_steps.specs.Marks.{kinds_of}
-use Rattle.par_frame_steps.specs.Merged.{AreMerges}
+use Rattle.par_frame_steps.specs.Merged.{AreFits, AreMerges}
 
 module _ (exc : List Name) where
   abbrev IsMerge : Merge → Type 0
@@ -49,3 +50,37 @@ module _ (exc : List Name) where
       ap (λ (ks : List PlaceKind). kinds_of ks) least
       ∙ sym (ap (λ (ks : List PlaceKind). merge_all exc (kinds_of ks) (kinds_of m.other)) one
       ∙ ap (λ (ks : List PlaceKind). merge_all exc [] (kinds_of ks)) other)
+
+-- ---- what fitted before
+
+module _ (exc : List Name) where
+  abbrev IsFit : Fit → Type 0
+  IsFit f = all_into exc f.one f.other ≡ true
+
+  fit-at : (fs : List Fit) (i : ℕ) (d : Fit) → AreFits exc fs → i < length fs
+      → IsFit (get_or fs i d)
+  fit-at [] i d are inside = absurd (omega (arith, inside))
+  fit-at (f ∷ fs) zero d are inside = are.0
+  fit-at (f ∷ fs) (suc i) d are inside = fit-at fs i d are.1 (omega (arith, inside))
+
+  -- what is the same fits, too
+  pub kept_fit : (fs : List Fit) (i : ℕ) (d f : Fit) (ks ls : List VKind) → AreFits exc fs
+      → i < length fs → f ≡ get_or fs i d → f.one ≡ ks → f.other ≡ ls
+      → all_into exc ks ls ≡ true
+  kept_fit fs i d f ks ls are inside here one other =
+      sym (ap (λ (vs : List VKind). all_into exc vs f.other) one
+      ∙ ap (λ (vs : List VKind). all_into exc ks vs) other)
+      ∙ subst (λ (g : Fit). IsFit g) (sym here) (fit-at fs i d are inside)
+
+  -- one in the place of another
+  pub fits_set : (fs : List Fit) (i : ℕ) (f : Fit) → AreFits exc fs → IsFit f
+      → AreFits exc (set fs i f)
+  fits_set [] i f are is = tt
+  fits_set (g ∷ fs) zero f are is = (is, are.1)
+  fits_set (g ∷ fs) (suc i) f are is = (are.0, fits_set fs i f are.1 is)
+
+  -- one more
+  pub fits_more : (fs : List Fit) (f : Fit) → AreFits exc fs → IsFit f
+      → AreFits exc (fs ++ f ∷ [])
+  fits_more [] f are is = (is, tt)
+  fits_more (g ∷ fs) f are is = (are.0, fits_more fs f are.1 is)

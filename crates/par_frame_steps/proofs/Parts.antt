@@ -8,6 +8,7 @@ use Rattle.std.proofs.lemmas.List.{length-append, length-set, set-append_left}
 use Rattle.std.proofs.lemmas.List.{set-append_right, take_at, take_all, drop_at}
 use Rattle.std.proofs.lemmas.List.{drop-drop, drop_all, replicate-append-replicate}
 use Rattle.std.proofs.lemmas.List.{drop-take, take-append-drop, length-take-le, length-drop}
+use Rattle.std.proofs.lemmas.List.{append-nil, take-map}
 use Rattle.std.proofs.Math.Seq.{take-append-add}
 use Rattle.std.proofs.lemmas.Nat.{div-add-mod'}
 use Rattle.std.proofs.lemmas.Option.{same_Some}
@@ -138,6 +139,14 @@ first-pieces (p ∷ ps) rest (suc w) whole few =
     ∙ sym (take-append-add p (joined ps ++ rest) (w * PIECE))
     ∙ ap (λ (n : ℕ). take n (p ++ (joined ps ++ rest))) more
     ∙ ap (λ (ks : Kinds). take (suc w * PIECE) ks) (sym (append_assoc p (joined ps) rest))
+
+-- as their kinds
+pub told_first : (ps : List Kinds) (w : ℕ) → AreWhole ps → w ≤ length ps
+    → take (w * PIECE) (kinds_of (joined ps)) ≡ kinds_of (joined (take w ps))
+told_first ps w whole few =
+    take-map kind_of (w * PIECE) (joined ps)
+    ∙ ap (λ (ks : Kinds). kinds_of (take (w * PIECE) ks)) (sym (append-nil (joined ps)))
+    ∙ ap (λ (ks : Kinds). kinds_of ks) (sym (first-pieces ps [] w whole few))
 
 first-whole : (ps : List Kinds) (w : ℕ) → AreWhole ps → AreWhole (take w ps)
 first-whole ps zero whole = tt

@@ -6,7 +6,7 @@ use Rattle.std.specs.List.{slice_get}
 use Rattle.std.proofs.Math.Seq.{take-append-add}
 use Rattle.std.proofs.lemmas.Bool.{and_parts}
 use Rattle.std.proofs.lemmas.List.{length-append, length-map, map-append, append-nil}
-use Rattle.std.proofs.lemmas.List.{length-take-le, drop_more}
+use Rattle.std.proofs.lemmas.List.{length-take-le, drop_more, take_more}
 use Rattle.std.proofs.lemmas.Nat.{div-add-mod'}
 use Rattle.std.proofs.lemmas.Option.{same_Some, slice_get_read}
 use Rattle.par_values.specs.Areas.{Name}
@@ -28,6 +28,24 @@ joined-more : (ps : List Kinds) (p : Kinds) → joined (ps ++ p ∷ []) ≡ join
 joined-more [] p = append-nil p
 joined-more (q ∷ ps) p =
     ap (λ (ks : Kinds). q ++ ks) (joined-more ps p) ∙ sym (append_assoc q (joined ps) p)
+
+-- all kinds, and those of a piece more
+pub told_more : (ps : List Kinds) (p : Kinds)
+    → kinds_of (joined (ps ++ p ∷ [])) ≡ kinds_of (joined ps) ++ kinds_of p
+told_more ps p =
+    ap (λ (ks : Kinds). kinds_of ks) (joined-more ps p) ∙ map-append kind_of (joined ps) p
+
+pub told_next : (ps : List Kinds) (i : ℕ) (d p : Kinds) → i < length ps → p ≡ get_or ps i d
+    → kinds_of (joined (take (i + 1) ps)) ≡ kinds_of (joined (take i ps)) ++ kinds_of p
+told_next ps i d p inside is =
+    ap (λ (qs : List Kinds). kinds_of (joined qs))
+    (take_more ps i d inside ∙ ap (λ (q : Kinds). take i ps ++ q ∷ []) (sym is))
+    ∙ told_more (take i ps) p
+
+pub told_one : (ps : List Kinds) (p : Kinds) → length ps ≡ 0
+    → kinds_of p ≡ kinds_of (joined (ps ++ p ∷ []))
+told_one [] p none = ap (λ (ks : Kinds). kinds_of ks) (sym (append-nil p))
+told_one (q ∷ ps) p none = absurd (omega (arith, none))
 
 whole-more : (ps : List Kinds) (p : Kinds) → AreWhole ps → length p ≡ PIECE
     → AreWhole (ps ++ p ∷ [])

@@ -71,6 +71,38 @@ impl<'f> PlaceFrame<'f> {
         self.stack.fits_into(exceptions, &other.stack)
     }
 
+    /// Whether it fits into another. Operands that were seen to fit a short while ago are found
+    /// there.
+    pub fn fits(
+        &self,
+        alloc: Global,
+        merges: &mut Merges<'f>,
+        exceptions: &[&[u8]],
+        other: &PlaceFrame<'f>,
+    ) -> Result<bool, NoMemory>
+        ensures { IfOk result (λ fits. fits
+            ≡ frame_into (names exceptions.now) (frame_of self.now) (frame_of other.now)) }
+    {
+        if !self.locals_fit_into(exceptions, other) {
+            return Ok(false);
+        }
+        self.operands_fit(alloc, merges, exceptions, other)
+    }
+
+    /// Whether its operands fit into those of another.
+    fn operands_fit(
+        &self,
+        alloc: Global,
+        merges: &mut Merges<'f>,
+        exceptions: &[&[u8]],
+        other: &PlaceFrame<'f>,
+    ) -> Result<bool, NoMemory>
+        ensures { IfOk result (λ fits. fits ≡ all_into (names exceptions.now)
+            (frame_of self.now).stack (frame_of other.now).stack) }
+    {
+        self.stack.fits(alloc, merges, exceptions, &other.stack)
+    }
+
     /// Whether another has as many locals and operands.
     pub fn has_lengths_of(&self, other: &PlaceFrame) -> bool
         ensures { result ≡ same_lengths (frame_of self.now) (frame_of other.now) }

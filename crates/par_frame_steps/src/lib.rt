@@ -8,6 +8,7 @@
 pub mod act;
 mod changes;
 mod demands;
+mod fits;
 pub mod frame;
 mod merges;
 mod outcome;

@@ -6,6 +6,7 @@ ghost use Rattle.par_frame_pass_laws.specs.Passes.{merge_all};
 ghost use Rattle.par_frame_steps.specs.Marks.{names, kinds_of};
 ghost use Rattle.par_frame_steps.specs.Merged.{AreMerges};
 
+use crate::fits::Fits;
 use par_base::memory::NoMemory;
 use par_place_kinds::Piece;
 use std::alloc::Global;
@@ -18,7 +19,7 @@ const WAYS: usize = 8;
 const PLACES: usize = 256;
 
 /// Names once more.
-fn owned(alloc: Global, texts: &[&[u8]]) -> Result<Vec<Vec<u8>>, NoMemory>
+pub(crate) fn owned(alloc: Global, texts: &[&[u8]]) -> Result<Vec<Vec<u8>>, NoMemory>
     ensures { IfOk result (λ all. map (λ name. name.items) all.items ≡ names texts.now) }
 {
     let mut all = Vec::with_capacity(alloc, texts.len())?;
@@ -38,7 +39,7 @@ fn is_same(own: &[u8], other: &[u8]) -> bool
 }
 
 /// Whether these names are others.
-fn are_same(own: &[Vec<u8>], others: &[&[u8]]) -> bool
+pub(crate) fn are_same(own: &[Vec<u8>], others: &[&[u8]]) -> bool
     ensures { IsTrue result → map (λ name. name.items) own.now ≡ names others.now }
 {
     if own.len() != others.len() {
@@ -103,6 +104,8 @@ pub struct Merges<'f> {
     kept: Vec<Merge<'f>>,
     /// Counts the piles that were merged.
     turn: usize,
+    /// What fits without a merge.
+    pub(crate) fits: Fits<'f>,
 }
 
 impl<'f> Model for Merges<'f> {
@@ -124,6 +127,7 @@ impl<'f> Merges<'f> {
             exceptions: Vec::new(alloc),
             kept: Vec::new(alloc),
             turn: 0,
+            fits: Fits::new(alloc),
         }
     }
 

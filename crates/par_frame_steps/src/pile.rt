@@ -10,7 +10,7 @@ ghost use Rattle.par_frame_steps.specs.Marks.{names, kind_of, kinds_of};
 ghost use Rattle.par_frame_steps.specs.Piled.{joined, AreWhole};
 
 use crate::merges::Merges;
-use crate::pieces::Pieces;
+use crate::pieces::{Pieces, pieces_into};
 use par_base::memory::NoMemory;
 use par_place_kinds::kinds::{all_into, copied, listed_into, merged};
 use par_place_kinds::{FewKinds, Piece, PlaceKind};
@@ -36,22 +36,6 @@ fn shared<'f>(few: Option<&FewKinds<'f>>) -> Result<Option<FewKinds<'f>>, NoMemo
         Some(few) => Ok(Some(few.share()?)),
         None => Ok(None),
     }
-}
-
-/// Whether each piece fits into the one at its place, of as many.
-fn pieces_into(exceptions: &[&[u8]], pieces: &[Piece], others: &[Piece]) -> bool
-    requires many { length pieces.now ≡ length others.now }
-    requires whole { AreWhole pieces.now }
-    requires others { AreWhole others.now }
-    ensures { result ≡ all_into (names exceptions.now) (kinds_of (joined pieces.now))
-        (kinds_of (joined others.now)) }
-{
-    for (place, piece) in pieces.iter().enumerate() {
-        if !piece.fits_into(exceptions, &others[place]) {
-            return false;
-        }
-    }
-    true
 }
 
 /// The least pieces into which both fit, of as many.
@@ -266,6 +250,27 @@ impl<'f> Pile<'f> {
             && all_into(exceptions, &self.rest, &other.rest)
     }
 
+    /// Whether each kind fits into the one at its place, of as many. What was seen to fit a short
+    /// while ago is found there.
+    pub fn fits(
+        &self,
+        alloc: Global,
+        merges: &mut Merges<'f>,
+        exceptions: &[&[u8]],
+        other: &Pile<'f>,
+    ) -> Result<bool, NoMemory>
+        ensures { IfOk result (λ fits. fits
+            ≡ all_into (names exceptions.now) (kinds_of self.now) (kinds_of other.now)) }
+    {
+        if self.pieces.len() != other.pieces.len() {
+            return Ok(false);
+        }
+        let fit = merges
+            .fits
+            .fit(alloc, exceptions, &self.pieces, &other.pieces)?;
+        Ok(fit && all_into(exceptions, &self.rest, &other.rest))
+    }
+
     /// The least kinds into which both fit, of as many.
     pub fn merged(
         &self,
@@ -282,7 +287,7 @@ impl<'f> Pile<'f> {
         let (mine, its) = (self.pieces.as_slice(), other.pieces.as_slice());
         let pieces = merged_pieces(alloc, merges, exceptions, mine, its)?;
         Ok(Pile {
-            pieces: Pieces::of(alloc, pieces)?,
+            pieces: Pieces::told(alloc, pieces)?,
             rest: merged(alloc, exceptions, &self.rest, &other.rest)?,
             like: None,
         })

@@ -1,8 +1,8 @@
 -- Kinds, each as its place among kinds of which all are different.
 use Rattle.std.proofs.Common.{◌≡◌, ℕ, zero, suc, ◌<◌, Bool, true, ◌&&◌, List, [], ◌∷◌, ◌++◌}
-use Rattle.std.proofs.Common.{◌+◌, take, get_or, length, refl, sym, ap, ◌∙◌}
+use Rattle.std.proofs.Common.{◌+◌, ◌≤◌, take, drop, get_or, length, refl, sym, ap, ◌∙◌, arith}
 use Rattle.std.proofs.Common.{Option, Some, IfSome, subst}
-use Rattle.std.proofs.lemmas.List.{take_more}
+use Rattle.std.proofs.lemmas.List.{take_more, take-map, map-append}
 use Rattle.std.proofs.lemmas.Bool.{and_parts}
 use Rattle.par_values.specs.Areas.{Name}
 use Rattle.par_kinds.specs.declared.frame.VKind.{VKind}
@@ -24,6 +24,62 @@ pub number_more : (ds : List VKind) (ns : List ℕ) (n : ℕ) (k : VKind) → k 
 number_more ds [] n k is = ap (λ (l : VKind). l ∷ []) (sym is)
 number_more ds (o ∷ ns) n k is =
     ap (λ (ls : List VKind). kind_at ds o ∷ ls) (number_more ds ns n k is)
+
+-- ---- the first ones
+
+pub below_first : (m n : ℕ) (ns : List ℕ) → AreBelow m ns → AreBelow m (take n ns)
+below_first m zero ns are = tt
+below_first m (suc n) [] are = tt
+below_first m (suc n) (o ∷ ns) are = (are.0, below_first m n ns are.1)
+
+pub numbered_first : (ds : List VKind) (ns : List ℕ) (n : ℕ)
+    → numbered ds (take n ns) ≡ take n (numbered ds ns)
+numbered_first ds ns n = sym (take-map (λ (m : ℕ). kind_at ds m) n ns)
+
+-- ---- different ones that begin with others
+
+begun-at : (ds es : List VKind) (n : ℕ) → take (length es) ds ≡ es → n < length es
+    → kind_at ds n ≡ kind_at es n
+begun-at ds [] n is less = absurd (omega (arith, less))
+begun-at [] (e ∷ es) n is less = absurd (cc is)
+begun-at (d ∷ ds) (e ∷ es) zero is less = ap (λ (ks : List VKind). kind_at ks 0) is
+begun-at (d ∷ ds) (e ∷ es) (suc n) is less =
+    begun-at ds es n (ap (λ (ks : List VKind). drop 1 ks) is) (omega (arith, less))
+
+begun-few : (ds es : List VKind) → take (length es) ds ≡ es → length es ≤ length ds
+begun-few ds [] is = omega arith
+begun-few [] (e ∷ es) is = absurd (cc is)
+begun-few (d ∷ ds) (e ∷ es) is =
+    let rest = begun-few ds es (ap (λ (ks : List VKind). drop 1 ks) is) in omega (arith, rest)
+
+below-wider : (m n : ℕ) (ns : List ℕ) → m ≤ n → AreBelow m ns → AreBelow n ns
+below-wider m n [] few are = tt
+below-wider m n (o ∷ ns) few are =
+    let less = are.0 in (omega (arith, less, few), below-wider m n ns few are.1)
+
+below-both : (m : ℕ) (ns os : List ℕ) → AreBelow m ns → AreBelow m os → AreBelow m (ns ++ os)
+below-both m [] os are more = more
+below-both m (n ∷ ns) os are more = (are.0, below-both m ns os are.1 more)
+
+module _ (ds es : List VKind) (begun : take (length es) ds ≡ es) where
+  begun-same : (os : List ℕ) → AreBelow (length es) os → numbered ds os ≡ numbered es os
+  begun-same [] are = refl
+  begun-same (o ∷ os) are =
+      ap (λ (k : VKind). k ∷ numbered ds os) (begun-at ds es o begun are.0)
+      ∙ ap (λ (ks : List VKind). kind_at es o ∷ ks) (begun-same os are.1)
+
+  -- numbers among those tell the same among these
+  pub begun_told : (ns os : List ℕ) → AreBelow (length es) os
+      → numbered ds (ns ++ os) ≡ numbered ds ns ++ numbered es os
+  begun_told ns os are =
+      map-append (λ (m : ℕ). kind_at ds m) ns os
+      ∙ ap (λ (ks : List VKind). numbered ds ns ++ ks) (begun-same os are)
+
+  pub begun_below : (ns os : List ℕ) → AreBelow (length ds) ns → AreBelow (length es) os
+      → AreBelow (length ds) (ns ++ os)
+  begun_below ns os are more =
+      below-both (length ds) ns os are
+      (below-wider (length es) (length ds) os (begun-few ds es begun) more)
 
 -- ---- what fits into what
 

@@ -1,15 +1,32 @@
 //! Different kinds, as which others are told.
 
-ghost use Rattle.std.specs.Prelude.{◌≡◌, IsTrue, IfOk};
+ghost use Rattle.std.specs.Prelude.{◌≡◌, length, take, IsTrue, IfOk};
 ghost use Rattle.par_frame_pass_laws.specs.Passes.{all_into};
-ghost use Rattle.par_place_kinds.specs.Marks.{names};
+ghost use Rattle.par_place_kinds.specs.Marks.{names, kinds_of};
 
+use crate::kind::PlaceKind;
 use crate::kinds::all_into;
 use crate::lookup::Lookup;
 use crate::spelling::Spelling;
 use par_base::memory::NoMemory;
 use std::alloc::Global;
 use std::marker::Model;
+
+/// Whether it is seen that kinds begin with others.
+fn begins(kinds: &[PlaceKind], others: &[PlaceKind]) -> bool
+    ensures { IsTrue result
+        → take (length others.now) (kinds_of kinds.now) ≡ kinds_of others.now }
+{
+    if others.len() > kinds.len() {
+        return false;
+    }
+    for (place, other) in others.iter().enumerate() {
+        if !kinds[place].is_same(*other) {
+            return false;
+        }
+    }
+    true
+}
 
 /// Kinds, and the same once more as bytes where no name is long. Contracts see the kinds.
 #[derive(Drop)]
@@ -56,6 +73,13 @@ impl<'f> Different<'f> {
             return false;
         };
         mine.is_same(its)
+    }
+
+    /// Whether it is seen that they begin with others.
+    pub(crate) fn begins_with(&self, other: &Different) -> bool
+        ensures { IsTrue result → take (length other.now) self.now ≡ other.now }
+    {
+        self.is_spelled_as(other) || begins(self.found.kinds(), other.found.kinds())
     }
 
     /// Whether each kind fits into the one at its place, of as many.

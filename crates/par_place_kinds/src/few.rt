@@ -1,6 +1,6 @@
 //! Lists of kinds of which few are different.
 
-ghost use Rattle.std.specs.Prelude.{◌≡◌, length, IsTrue, IfOk, Some, IfSome};
+ghost use Rattle.std.specs.Prelude.{◌≡◌, ◌≤◌, [], ◌++◌, length, take, IsTrue, IfOk, Some, IfSome};
 ghost use Rattle.par_frame_pass_laws.specs.Passes.{all_into};
 ghost use Rattle.par_place_kinds.specs.Marks.{names, kinds_of};
 ghost use Rattle.par_place_kinds.specs.Numbered.{numbered, AreBelow};
@@ -49,6 +49,16 @@ fn found_in<'f>(
         }
     }
     Ok(Some(found))
+}
+
+/// The first numbers, of so many.
+fn first_of(alloc: Global, numbers: &[u8], many: usize) -> Result<Vec<u8>, NoMemory>
+    requires { many ≤ length numbers.now }
+    ensures { IfOk result (λ all. all.items ≡ take many numbers.now) }
+{
+    let mut all = Vec::new(alloc);
+    all.extend_from_slice(&numbers[..many])?;
+    Ok(all)
 }
 
 /// The numbers of two lists at one place.
@@ -195,8 +205,35 @@ impl<'f> FewKinds<'f> {
         })
     }
 
+    /// The first kinds, of so many, if there are as many.
+    #[tactic(auto, using(crate::proofs::Numbered::numbered_first, crate::proofs::Numbered::below_first))]
+    pub fn first(&self, alloc: Global, many: usize) -> Result<Option<FewKinds<'f>>, NoMemory>
+        ensures { IfOk result (λ all. IfSome all (λ few. few ≡ take many self.now)) }
+    {
+        if many > self.numbers.len() {
+            return Ok(None);
+        }
+        let numbers = first_of(alloc, &self.numbers, many)?;
+        Ok(Some(FewKinds {
+            different: self.different.clone()?,
+            numbers: Rc::new(alloc, numbers)?,
+        }))
+    }
+
+    /// The kinds and others behind them, if it is seen that the different ones of those begin with
+    /// these.
+    pub fn and(&self, alloc: Global, more: &FewKinds<'f>) -> Result<Option<FewKinds<'f>>, NoMemory>
+        ensures { IfOk result (λ all. IfSome all (λ few. few ≡ self.now ++ more.now)) }
+    {
+        let mut telling = Telling::new(alloc, more)?;
+        if !telling.add(self)? || !telling.add(more)? {
+            return Ok(None);
+        }
+        Ok(Some(telling.told(alloc)?))
+    }
+
     /// Whether it is seen by bytes that others are the same.
-    pub(crate) fn is_same(&self, other: &FewKinds) -> bool
+    pub fn is_same(&self, other: &FewKinds) -> bool
         ensures { IsTrue result → self.now ≡ other.now }
     {
         self.numbers.as_slice() == other.numbers.as_slice()
@@ -216,5 +253,57 @@ impl<'f> FewKinds<'f> {
         let mine = self.different.found().kinds();
         let its = other.different.found().kinds();
         pairs_into(exceptions, numbers, others, mine, its)
+    }
+}
+
+/// Kinds that are told by the different ones of others. Contracts see which kinds they are.
+#[derive(Drop)]
+pub struct Telling<'f> {
+    different: Rc<Different<'f>>,
+    numbers: Vec<u8>,
+}
+
+impl<'f> Model for Telling<'f> {
+    ghost use Rattle.std.specs.Prelude.{List, length};
+    ghost use Rattle.par_kinds.specs.declared.frame.VKind.{VKind};
+    ghost use Rattle.par_place_kinds.specs.Numbered.{numbered, AreBelow};
+
+    ghost Value = { List VKind };
+
+    ghost view = { λ t. numbered t.different.value t.numbers.items };
+
+    ghost invariant = { λ t. AreBelow (length t.different.value) t.numbers.items };
+}
+
+impl<'f> Telling<'f> {
+    /// No kinds, and the different ones of others.
+    pub fn new(alloc: Global, like: &FewKinds<'f>) -> Result<Telling<'f>, NoMemory>
+        ensures { IfOk result (λ telling. telling ≡ []) }
+    {
+        Ok(Telling {
+            different: like.different.clone()?,
+            numbers: Vec::new(alloc),
+        })
+    }
+
+    /// Tells others behind them, if it is seen that the different ones begin with theirs.
+    pub fn add(&mut self, few: &FewKinds) -> Result<bool, NoMemory>
+        ensures { IfOk result (λ done. IsTrue done → self.new ≡ self.old ++ few.now) }
+    {
+        if !self.different.begins_with(&few.different) {
+            return Ok(false);
+        }
+        self.numbers.extend_from_slice(few.numbers.as_slice())?;
+        Ok(true)
+    }
+
+    /// The kinds that were told.
+    pub fn told(self, alloc: Global) -> Result<FewKinds<'f>, NoMemory>
+        ensures { IfOk result (λ few. few ≡ self.entry) }
+    {
+        Ok(FewKinds {
+            different: self.different,
+            numbers: Rc::new(alloc, self.numbers)?,
+        })
     }
 }

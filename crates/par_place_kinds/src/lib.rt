@@ -12,6 +12,6 @@ mod lookup;
 mod piece;
 mod spelling;
 
-pub use few::FewKinds;
+pub use few::{FewKinds, Telling};
 pub use kind::PlaceKind;
 pub use piece::Piece;

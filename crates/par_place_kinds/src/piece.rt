@@ -1,6 +1,6 @@
 //! Pieces of piles, which copies share.
 
-ghost use Rattle.std.specs.Prelude.{◌≡◌, ◌<◌, [], length, slice_set, IsTrue, IfOk};
+ghost use Rattle.std.specs.Prelude.{◌≡◌, ◌<◌, [], length, slice_set, IsTrue, IfOk, IfSome};
 ghost use Rattle.par_frame_pass_laws.specs.Passes.{all_into, merge_all};
 ghost use Rattle.par_place_kinds.specs.Listed.{listed_into};
 ghost use Rattle.par_place_kinds.specs.Marks.{names, kinds_of};
@@ -50,6 +50,16 @@ impl<'f> Kept<'f> {
         ensures { result.now ≡ self.now }
     {
         self.kinds.as_slice()
+    }
+
+    /// How the kinds are told, where few are different.
+    fn few(&self) -> Option<&FewKinds<'f>>
+        ensures { IfSome result (λ few. few.now ≡ kinds_of self.now) }
+    {
+        match &self.few {
+            Some(few) => Some(few),
+            None => None,
+        }
     }
 
     /// The kinds, one of which is set.
@@ -147,8 +157,10 @@ impl<'f> Model for Piece<'f> {
 
 impl<'f> Piece<'f> {
     /// How its kinds are told, where few are different.
-    pub fn few(&self) -> Option<&FewKinds<'f>> {
-        self.kept.few.as_ref()
+    pub fn few(&self) -> Option<&FewKinds<'f>>
+        ensures { IfSome result (λ few. few.now ≡ kinds_of self.now) }
+    {
+        self.kept.few()
     }
 
     /// A piece of these kinds, which may have the different ones of others.

@@ -3,8 +3,8 @@ use Rattle.std.proofs.lemmas.List.{length-take-le}
 use Rattle.par_frame_steps.proofs.Parts.{first_few, first_inside, first_is, first_are}
 use Rattle.par_frame_steps.proofs.pile.Pile.first.Goals as goal
 
-pub first-requires : goal.first-requires
-first-requires c =
+pub first-requires-clause-many : goal.first-requires-clause-many
+first-requires-clause-many c =
     let fewer : c.args.many < length c.args.self.now =
     omega (arith, c.if-many-len.false, c.len.ensures) in
     first_few c.self.inside.pieces c.self.inside.rest.items c.args.self.now c.args.many

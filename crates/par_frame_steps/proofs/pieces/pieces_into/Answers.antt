@@ -1,6 +1,6 @@
 use Rattle.par_frame_steps.specs.Marks.{names}
 use Rattle.par_frame_steps.proofs.Piled.{piece_unfit, piece_fits}
-use Rattle.par_frame_steps.proofs.pile.pieces_into.Goals as goal
+use Rattle.par_frame_steps.proofs.pieces.pieces_into.Goals as goal
 
 pub returns-then-not-fits_into : goal.returns-then-not-fits_into
 returns-then-not-fits_into c =
