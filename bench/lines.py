@@ -2,7 +2,7 @@
 """Writes the table of lines in docs/ARCHITECTURE.md anew.
 
 Blank lines, comments, imports and the choice of tactics do not count, and in code no clause. The
-lines of a crate of calls or rows, and of par_worked, which they share, are tests.
+lines of a crate of calls or rows, and of those in SHARED, which they share, are tests.
 """
 
 import pathlib
@@ -10,6 +10,7 @@ import re
 
 ROOT = pathlib.Path(__file__).parent.parent
 PAGE = ROOT / "docs" / "ARCHITECTURE.md"
+SHARED = ("par_worked", "par_code_runner", "par_typed_sources")
 TABLE = re.compile(r"(<!-- lines -->\n).*?(?=<!-- /lines -->)", re.DOTALL)
 HEAD = """Without blank lines, comments and imports, and code without clauses.
 
@@ -44,7 +45,7 @@ def code_lines(folder):
 
 
 def is_tests(crate):
-    return crate == "par_worked" or crate.endswith(("_calls", "_rows"))
+    return crate in SHARED or crate.endswith(("_calls", "_rows"))
 
 
 def row(crate):

@@ -1,10 +1,6 @@
 //! What code small bodies have, over the trees that the reader and the typing give, with ample
 //! memory.
 
-ghost use Rattle.std.specs.Prelude.{IfOk};
-ghost use Rattle.par_typed.specs.Shown.{bodies};
-ghost use Rattle.par_typed_laws.specs.WellTyped.{IsWellTyped};
-
 use par_code::{Handler, Item, LabelFrame, Labelled, Slot, code_of};
 use par_code_form::opcode::{
     GETFIELD, GETSTATIC, GOTO, IF_ACMPEQ, IF_ACMPNE, IF_ICMPEQ, IFEQ, IFNE, INVOKESPECIAL,
@@ -12,11 +8,7 @@ use par_code_form::opcode::{
 };
 use par_erase::{Plain, erase};
 use par_instr::Instr;
-use par_lexer::lex;
-use par_parser::parse;
-use par_table::build;
-use par_typed::program::Typed;
-use par_typing::type_program;
+use par_typed_sources::with_main;
 use par_worked::expect;
 use std::alloc::Global;
 use std::rt::HostRuntime;
@@ -32,11 +24,6 @@ class Shop {
   static int got;
   static void shut() { throw new Bad(); }
   static void main() {
-";
-
-const BEHIND: &[u8] = b"
-  }
-}
 ";
 
 const PAID: u16 = 0;
@@ -115,28 +102,6 @@ pub fn are_items(items: &[Item], wanted: &[Wanted]) -> bool {
         }
     }
     true
-}
-
-/// The typed program of a source.
-pub fn typed(alloc: Global, source: &[u8]) -> Result<Typed, Fail>
-    ensures { IfOk result (λ typed. IsWellTyped typed.table (bodies typed.bodies)) }
-{
-    let tokens = lex(alloc, source)?;
-    if tokens.len() > 262_144 {
-        return Err(Fail::new("too many tokens"));
-    }
-    let program = parse(alloc, tokens.as_slice())?;
-    let table = build(alloc, &program)?;
-    let typed = type_program(alloc, table, &program)?;
-    Ok(typed)
-}
-
-/// The program whose source has this text in the method `main`, which stands last in it.
-pub fn with_main(alloc: Global, before: &[u8], body: &[u8]) -> Result<Typed, Fail> {
-    let mut source = Vec::from_slice(alloc, before)?;
-    source.extend_from_slice(body)?;
-    source.extend_from_slice(BEHIND)?;
-    typed(alloc, source.as_slice())
 }
 
 fn program(alloc: Global, body: &[u8]) -> Result<Plain, Fail> {

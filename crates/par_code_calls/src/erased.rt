@@ -1,7 +1,7 @@
 //! What is left of locks: they are opened and closed where some `when` of any body asks for them.
 
-use crate::bodies::typed;
 use par_erase::{PStmt, Plain, erase};
+use par_typed_sources::typed;
 use par_worked::expect;
 use std::rt::HostRuntime;
 use std::test::Fail;

@@ -1,10 +1,12 @@
 //! The code of the largest methods: as many nodes and as many locals as a method may have.
 
-use crate::bodies::{BEFORE, MAIN, RETURN, SET, SHOP, Wanted, is_item, with_main};
+use crate::bodies::{BEFORE, MAIN, RETURN, SET, SHOP, Wanted, is_item};
 use par_code::{Item, Labelled, code_of};
 use par_erase::erase;
 use par_instr::Instr;
 use par_typed::program::Typed;
+use par_typed_sources::large_methods::{push_locals, push_signs, push_times};
+use par_typed_sources::with_main;
 use par_worked::expect;
 use std::alloc::Global;
 use std::rt::HostRuntime;
@@ -16,39 +18,6 @@ const LOCALS: u8 = 200;
 const FIRST: i32 = 100;
 
 const NODES: u32 = 2_000;
-
-const DIGITS: &[u8] = b"0123456789";
-
-fn push_local(number: &[u8], source: &mut Vec<u8>) -> Result<(), Fail> {
-    source.extend_from_slice(b"int a")?;
-    source.extend_from_slice(number)?;
-    source.extend_from_slice(b" = ")?;
-    source.extend_from_slice(number)?;
-    source.extend_from_slice(b";\n")?;
-    Ok(())
-}
-
-fn push_ten(hundreds: u8, tens: u8, source: &mut Vec<u8>) -> Result<(), Fail> {
-    for ones in DIGITS {
-        let number = [hundreds, tens, *ones];
-        push_local(number.as_slice(), source)?;
-    }
-    Ok(())
-}
-
-fn push_hundred(hundreds: u8, source: &mut Vec<u8>) -> Result<(), Fail> {
-    for tens in DIGITS {
-        push_ten(hundreds, *tens, source)?;
-    }
-    Ok(())
-}
-
-fn push_times(part: &[u8], times: u32, source: &mut Vec<u8>) -> Result<(), Fail> {
-    for _ in 0..times {
-        source.extend_from_slice(part)?;
-    }
-    Ok(())
-}
 
 // How many nodes the source of `main` has.
 fn nodes(typed: &Typed) -> u32 {
@@ -93,13 +62,6 @@ fn are_set(items: &[Item]) -> bool {
         }
     }
     true
-}
-
-fn push_locals(body: &mut Vec<u8>) -> Result<(), Fail> {
-    push_hundred(b'1', body)?;
-    push_hundred(b'2', body)?;
-    body.extend_from_slice(b"got = a299;")?;
-    Ok(())
 }
 
 fn with_locals(alloc: Global) -> Result<Labelled, Fail> {
@@ -201,30 +163,6 @@ fn the_longest_row_of_assignments(rt: HostRuntime) -> Result<(), Fail> {
     let typed = with_assignments(rt.alloc())?;
     let full = is_full(rt.alloc(), &typed, &OF_ASSIGNMENTS, 0)?;
     expect(full, "the code of assignments")
-}
-
-// A declaration of 1 node, an assignment of 2, and below each some signs and a `true`.
-fn push_turned(before: &[u8], signs: u32, source: &mut Vec<u8>) -> Result<(), Fail> {
-    source.extend_from_slice(before)?;
-    push_times(b"!", signs, source)?;
-    source.extend_from_slice(b"true;\n")?;
-    Ok(())
-}
-
-fn push_all_turned(statements: u32, source: &mut Vec<u8>) -> Result<(), Fail> {
-    for _ in 0..statements {
-        push_turned(b"b = ", 60, source)?;
-    }
-    Ok(())
-}
-
-// Of all nodes `!` has the most items, the most labels and the most frames. The nodes are 1 of the
-// body, 62, 30 times 63, and 47: 1,904 signs with 6 items and 8 bytes each, 32 numbers that are
-// stored, and a return.
-fn push_signs(body: &mut Vec<u8>) -> Result<(), Fail> {
-    push_turned(b"boolean b = ", 60, body)?;
-    push_all_turned(30, body)?;
-    push_turned(b"b = ", 44, body)
 }
 
 fn with_signs(alloc: Global) -> Result<Typed, Fail> {

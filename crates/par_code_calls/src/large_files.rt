@@ -4,34 +4,17 @@ use crate::sources::{files_of, first_file};
 use par_class::ClassFile;
 use par_compile::CompiledClass;
 use par_lexer::list::List;
+use par_typed_sources::large_classes::{put_classes, put_loop};
 use par_worked::expect;
 use std::alloc::Global;
 use std::rt::HostRuntime;
 use std::test::Fail;
-
-fn put_classes(source: &mut Vec<u8>) -> Result<(), Fail> {
-    source.extend_from_slice(b"class Shop { static void main() { } }\n")?;
-    for first in b"abcdefg" {
-        for second in b"abcdefghijklmnopqr" {
-            put_class(source, *first, *second)?;
-        }
-    }
-    source.extend_from_slice(b"class Last { }\n")?;
-    Ok(())
-}
 
 // 128 classes, of which the first and the last have names of their own.
 fn many(alloc: Global) -> Result<List<CompiledClass>, Fail> {
     let mut source = Vec::new(alloc);
     put_classes(&mut source)?;
     files_of(alloc, source.as_slice())
-}
-
-fn put_class(source: &mut Vec<u8>, first: u8, second: u8) -> Result<(), Fail> {
-    source.extend_from_slice(b"class K")?;
-    source.extend_from_slice(&[first, second])?;
-    source.extend_from_slice(b" { }\n")?;
-    Ok(())
 }
 
 fn expect_name(files: &[CompiledClass], place: usize, name: &[u8]) -> Result<(), Fail> {
@@ -52,27 +35,6 @@ fn check_names(files: &[CompiledClass]) -> Result<(), Fail> {
 fn each_of_128_classes_has_a_file(rt: HostRuntime) -> Result<(), Fail> {
     let files = many(rt.alloc())?;
     check_names(files.as_slice())
-}
-
-// A loop of 31 statements, each of which turns a value 60 times: 1,929 nodes, most of which have
-// as much code as any node has.
-fn put_loop(source: &mut Vec<u8>) -> Result<(), Fail> {
-    source.extend_from_slice(b"class Shop { static void main() {")?;
-    source.extend_from_slice(b"boolean b = false; while (b) {\n")?;
-    for _ in 0..31u32 {
-        put_turns(source)?;
-    }
-    source.extend_from_slice(b"} } }\n")?;
-    Ok(())
-}
-
-fn put_turns(source: &mut Vec<u8>) -> Result<(), Fail> {
-    source.extend_from_slice(b"b = ")?;
-    for _ in 0..60u32 {
-        source.push(b'!')?;
-    }
-    source.extend_from_slice(b"b;\n")?;
-    Ok(())
 }
 
 // Each turn has 8 bytes, and each statement two more.

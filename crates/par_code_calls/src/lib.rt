@@ -18,8 +18,6 @@ mod nested;
 #[cfg(test)]
 mod numbers;
 #[cfg(test)]
-mod runner;
-#[cfg(test)]
 mod runs;
 #[cfg(test)]
 mod sources;

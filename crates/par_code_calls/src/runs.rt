@@ -1,9 +1,9 @@
 //! What the labelled code of small bodies puts out where it runs.
 
-use crate::bodies::with_main;
-use crate::runner::run;
 use par_code::{Labelled, code_of};
+use par_code_runner::run;
 use par_erase::{Plain, erase};
+use par_typed_sources::with_main;
 use par_worked::expect;
 use std::alloc::Global;
 use std::rt::HostRuntime;

@@ -1,9 +1,9 @@
 //! Sources of tests, and their files.
 
-use crate::bodies::typed;
 use par_class::{ClassFile, LONGEST_CLASS, read_class};
 use par_compile::{CompiledClass, compile};
 use par_lexer::list::List;
+use par_typed_sources::typed;
 use std::alloc::Global;
 use std::test::Fail;
 

@@ -4,6 +4,7 @@ use crate::sources::{bytes_at, file_at, files_of};
 use par_class::LONGEST_CLASS;
 use par_compile::CompiledClass;
 use par_lexer::list::List;
+use par_typed_sources::large_classes::{put_big, put_crowded};
 use par_worked::expect;
 use std::alloc::Global;
 use std::rt::HostRuntime;
@@ -49,60 +50,6 @@ fn a_file_begins_with_its_version(rt: HostRuntime) -> Result<(), Fail> {
     check_version(files.as_slice())
 }
 
-const PARAMETERS: &[u8] = b"int n, boolean b1, boolean b2, boolean b3, boolean b4, boolean b5, \
-    boolean b6, boolean b7, boolean b8, boolean b9, boolean b10, boolean b11, boolean b12, \
-    boolean b13, boolean b14, boolean b15";
-
-// A class of four methods of 200 locals, each of which calls a method of 16 arguments 33 times.
-fn put_big(source: &mut Vec<u8>) -> Result<(), Fail> {
-    source.extend_from_slice(b"class Big { static void f(")?;
-    source.extend_from_slice(PARAMETERS)?;
-    source.extend_from_slice(b") { }\n")?;
-    for digit in b"1234" {
-        put_method(source, *digit)?;
-    }
-    source.extend_from_slice(b"}\n")?;
-    Ok(())
-}
-
-fn put_method(source: &mut Vec<u8>, digit: u8) -> Result<(), Fail> {
-    source.extend_from_slice(b"static void g")?;
-    source.push(digit)?;
-    source.extend_from_slice(b"() {\n")?;
-    put_locals(source)?;
-    for _ in 0..33u32 {
-        put_call(source)?;
-    }
-    source.extend_from_slice(b"}\n")?;
-    Ok(())
-}
-
-fn put_locals(source: &mut Vec<u8>) -> Result<(), Fail> {
-    for letter in b"abcdefghij" {
-        for tens in b"0123456789" {
-            put_local(source, *letter, *tens, b'a')?;
-            put_local(source, *letter, *tens, b'b')?;
-        }
-    }
-    Ok(())
-}
-
-fn put_local(source: &mut Vec<u8>, letter: u8, digit: u8, last: u8) -> Result<(), Fail> {
-    source.extend_from_slice(b"Big ")?;
-    source.extend_from_slice(&[letter, digit, last])?;
-    source.extend_from_slice(b" = null;\n")?;
-    Ok(())
-}
-
-fn put_call(source: &mut Vec<u8>) -> Result<(), Fail> {
-    source.extend_from_slice(b"f(1")?;
-    for _ in 0..15u32 {
-        source.extend_from_slice(b", 2 < 3")?;
-    }
-    source.extend_from_slice(b");\n")?;
-    Ok(())
-}
-
 // The files of a small class and of one of many frames.
 fn small_and_big(alloc: Global) -> Result<List<CompiledClass>, Fail> {
     let mut source = with_body(alloc, b"Big.g1();")?;
@@ -134,42 +81,10 @@ fn a_class_of_many_frames_has_none(rt: HostRuntime) -> Result<(), Fail> {
     check_versions(rt.alloc(), files.as_slice())
 }
 
-// A method with nearly as many nodes as it may have, most of them objects.
-fn put_crowd(source: &mut Vec<u8>, name: u8) -> Result<(), Fail> {
-    source.extend_from_slice(b"static void ")?;
-    source.push(name)?;
-    source.extend_from_slice(b"() {")?;
-    for _ in 0..110u32 {
-        put_objects(source)?;
-    }
-    source.extend_from_slice(b"}\n")?;
-    Ok(())
-}
-
-// A class of four such methods.
-fn put_crowded(source: &mut Vec<u8>) -> Result<(), Fail> {
-    source.extend_from_slice(b"class A { } class Big { static void f(A a, A b, A c, A d, A e")?;
-    source.extend_from_slice(b", A g, A h, A i, A j, A k, A l, A m, A n, A o, A p, A q) { }\n")?;
-    for name in b"wxyz" {
-        put_crowd(source, *name)?;
-    }
-    source.extend_from_slice(b"} class Shop { static void main() { Big.w(); } }")?;
-    Ok(())
-}
-
 fn crowded(alloc: Global) -> Result<List<CompiledClass>, Fail> {
     let mut source = Vec::new(alloc);
     put_crowded(&mut source)?;
     files_of(alloc, source.as_slice())
-}
-
-fn put_objects(source: &mut Vec<u8>) -> Result<(), Fail> {
-    source.extend_from_slice(b"f(new A()")?;
-    for _ in 0..15u32 {
-        source.extend_from_slice(b", new A()")?;
-    }
-    source.extend_from_slice(b");\n")?;
-    Ok(())
 }
 
 fn check_crowded(alloc: Global, files: &[CompiledClass]) -> Result<(), Fail> {

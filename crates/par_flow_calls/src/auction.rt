@@ -1,13 +1,13 @@
 //! What two runs of the auction show to a bidder who cannot tell their inputs apart.
 
 use crate::keys::numbers;
-use crate::typed_trees::typed;
 use par_alike::alike;
 use par_lexer::list::List;
 use par_lexer::name::Name;
 use par_meaning::{SourceEvent, SourceRun, run_source};
 use par_policy::{Lockset, sees};
 use par_typed::program::Typed;
+use par_typed_sources::typed;
 use par_values::inputs::{ChannelInput, Inputs};
 use par_values::run::{Event, Val};
 use par_worked::{AUCTION, expect};

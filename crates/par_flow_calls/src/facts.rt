@@ -1,11 +1,11 @@
 //! Facts of worked bodies, with ample memory.
 
-use crate::typed_trees::typed;
 use par_atoms::Atoms;
 use par_flow::{FactTable, KeptWay, facts_of};
 use par_locks::{LockFacts, locks_of};
 use par_policy::leq;
 use par_typed::table::Table;
+use par_typed_sources::typed;
 use par_worked::expect;
 use std::alloc::Global;
 use std::rt::HostRuntime;

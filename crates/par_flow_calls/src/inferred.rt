@@ -4,10 +4,10 @@ ghost use Rattle.std.specs.Prelude.{IsTrue};
 ghost use Rattle.std.specs.List.{AllByRecursion};
 ghost use Rattle.par_table_laws.specs.Declared.{HasFewFields};
 
-use crate::typed_trees::typed;
 use par_infer::{Filling, InferError, infer};
 use par_typed::program::Typed;
 use par_typed::table::ClassInfo;
+use par_typed_sources::typed;
 use par_worked::expect;
 use std::alloc::Global;
 use std::rt::HostRuntime;

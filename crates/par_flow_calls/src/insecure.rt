@@ -2,11 +2,11 @@
 //! would be accepted if one rule were laxer.
 
 use crate::keys::keys;
-use crate::typed_trees::with_main;
 use par_alike::alike;
 use par_meaning::{SourceEvent, SourceRun, run_source};
 use par_policy::Lockset;
 use par_typed::program::Typed;
+use par_typed_sources::with_main;
 use par_values::run::{Event, Val};
 use par_worked::expect;
 use std::alloc::Global;

@@ -6,8 +6,6 @@
 #[cfg(test)]
 mod auction;
 #[cfg(test)]
-mod event_lines;
-#[cfg(test)]
 mod facts;
 #[cfg(test)]
 mod inferred;

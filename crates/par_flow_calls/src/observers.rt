@@ -1,11 +1,11 @@
 //! Which inputs of a typed program an observer cannot tell apart.
 
 use crate::keys::keys;
-use crate::typed_trees::typed;
 use par_alike::alike;
 use par_lexer::list::List;
 use par_policy::Lockset;
 use par_typed::program::Typed;
+use par_typed_sources::typed;
 use par_values::inputs::Inputs;
 use par_worked::expect;
 use std::alloc::Global;

@@ -1,9 +1,9 @@
 //! Releases of worked programs: where an open lock matters to an actor.
 
-use crate::typed_trees::typed;
 use par_audit::{Release, audit};
 use par_check::{Accepted, check};
 use par_lexer::list::List;
+use par_typed_sources::typed;
 use par_worked::{AUCTION, expect};
 use std::alloc::Global;
 use std::rt::HostRuntime;

@@ -1,8 +1,8 @@
 //! Runs of programs, over the trees that the reader and the typing give, with ample memory.
 
 use crate::keys::keys;
-use crate::typed_trees::with_main;
 use par_meaning::{SourceEvent, SourceRun, run_source};
+use par_typed_sources::with_main;
 use par_values::run::{Ending, Event, Val};
 use par_worked::expect;
 use std::alloc::Global;

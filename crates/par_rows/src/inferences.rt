@@ -1,5 +1,5 @@
-//! Which policies are inferred for fields that leave theirs open, and what is accepted once they are
-//! written out.
+//! Which policies are inferred for fields that leave theirs open, and what is accepted once they
+//! are written out.
 
 use par_io::NoMemory;
 use par_row_calls::{ACCEPTED, Answer, answers, folder_of, with_lines};

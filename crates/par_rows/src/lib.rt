@@ -8,8 +8,6 @@
 #![tactic(auto)]
 
 #[cfg(test)]
-mod audits;
-#[cfg(test)]
 mod examples;
 #[cfg(test)]
 mod faults;
@@ -25,8 +23,6 @@ mod name_refusals;
 mod names;
 #[cfg(test)]
 mod refusals;
-#[cfg(test)]
-mod samples;
 #[cfg(test)]
 mod sentences;
 #[cfg(test)]

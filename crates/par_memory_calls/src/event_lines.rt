@@ -1,7 +1,7 @@
 //! The line of each event and of each ending that a run can have.
 
+use par_base::name::Name;
 use par_event_lines::{bad_code_line, ending_line, event_line};
-use par_lexer::name::Name;
 use par_values::run::{Ending, Event, Val};
 use par_worked::expect;
 use std::alloc::Global;

@@ -1,5 +1,7 @@
 //! A slow runner of labelled code with numbers, locks, exceptions, two channels and the one field
-//! of a class. It finds each label by looking through the items.
+//! of a class. It finds each label by looking through the items. Nothing but tests stands on it,
+//! and no clause says what it does, as none says what a test does.
+#![tactic(auto)]
 
 use par_code_form::opcode::{
     GETSTATIC, GOTO, IF_ICMPEQ, IFEQ, IFNE, INVOKESPECIAL, INVOKESTATIC, PUTSTATIC,

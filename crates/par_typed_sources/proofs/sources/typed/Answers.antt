@@ -7,7 +7,7 @@ use Rattle.par_span_laws.specs.Law.{ComesToTree}
 use Rattle.par_source_laws.proofs.Numbers.{trees_have_numbers}
 use Rattle.par_source_laws.proofs.Order.{trees_are_in_order}
 use Rattle.par_source_laws.proofs.Short.{trees_are_short}
-use Rattle.par_flow_calls.proofs.typed_trees.typed.Goals as goal
+use Rattle.par_typed_sources.proofs.sources.typed.Goals as goal
 
 at_most : (n m : ℕ) → (m < n → ⊥) → n ≤ m
 at_most n m none = by (nat_lt m n) refl where
