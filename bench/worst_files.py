@@ -218,6 +218,28 @@ def pushed_and_taken(part):
     return among_classes(names, code, 258, 127, int(15 * part))
 
 
+def pushed_on_many(part):
+    """The same on 32,512 others, so that each push fills a piece; as many as fit."""
+    names = [f"C{n:03}".ljust(64, "x") for n in range(127)]
+    often = bytes([0x2A, 0x2B, 0x2C, 0x2D, 0x01, 0x03]) * (126 * 43)
+    code = whole_pieces(1) + often[: 126 * 256] + b"\x03\x57" * 16000 + b"\xb1"
+    return among_classes(names, code, 127 * 256 + 2, 127, int(15 * part))
+
+
+def merged_classes(part):
+    """Methods of branches, each to what is behind it, under operands that two ways push: of each
+    256 one differs, and they have as many kinds as can be, of classes with long names; as many as
+    fit."""
+    names = [f"C{n:03}".ljust(64, "x") for n in range(127)]
+    head = made_of(127)
+    one = whole_pieces(42)[len(head) :]
+    other = one.replace(bytes([0x19, 4, 0x19, 5]), bytes([0x19, 5, 0x19, 5]))
+    code = head + b"\x03\x99" + struct.pack(">h", 6 + len(one)) + one
+    code += b"\xa7" + struct.pack(">h", 3 + len(other)) + other
+    code += b"\x03\x99\0\x03" * 8000 + b"\xb1"
+    return among_classes(names, code, 42 * 256 + 2, 127, int(15 * part))
+
+
 def ways_that_meet(part):
     """A method in which two ways push as many operands, kinds of which none fits into that of the
     other, and then branch to the same offsets."""
@@ -353,6 +375,10 @@ FILES = {
     "8,000 branches under 21,504 operands, 129 kinds in each 256, verified": short_classes,
     "the same, classes named by 64 bytes, verified": long_classes,
     "483,000 operands pushed on 256 of 129 kinds and taken, verified": pushed_and_taken,
+    "240,000 operands pushed on 32,512 others and taken, verified": pushed_on_many,
+    "8,000 branches under operands that two ways merged, 127 classes named by 64 bytes, verified": (
+        merged_classes
+    ),
     "two ways that meet at 3,600 offsets under 16,000 operands, verified": ways_that_meet,
     "124,500 branches under 16,000 operands to a frame above, verified": ways_below,
     "30,000 frames of 30,000 locals that are told, verified": frames_told,
