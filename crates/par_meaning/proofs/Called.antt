@@ -29,9 +29,9 @@ use Rattle.par_meaning.specs.declared.work.Target.{Target}
 use Rattle.par_meaning.specs.declared.work.Then.{Then}
 use Rattle.par_meaning.specs.declared.work.Then.TheVariants.{Waits, Ends}
 use Rattle.par_meaning.specs.declared.work.Waiting.TheVariants as waiting
-use Rattle.par_meaning.specs.Frame.{Frame, held, left_by}
-use Rattle.par_meaning.specs.Held.{Held}
-use Rattle.par_meaning.specs.Stored.{holds}
+use Rattle.par_source_state.specs.Frame.{Frame, held, left_by}
+use Rattle.par_source_state.specs.Held.{Held}
+use Rattle.par_source_state.specs.Stored.{holds}
 use Rattle.par_meaning.specs.Work.{Setting, Follows, waits, exit_of, completes, evaluates}
 use Rattle.par_meaning.specs.Work.{evaluates_all, called, call_parts, last_values, run_calls}
 use Rattle.par_meaning.specs.Onward.{state, behind, goes_on, onward}

@@ -22,15 +22,15 @@ use Rattle.par_run_laws.specs.Meaning.{eval, eval_all, inputs, born}
 use Rattle.par_run_laws.specs.Tasks.{Rests, Task, named, follow}
 use Rattle.par_run_laws.specs.Values.{truth}
 use Rattle.par_meaning.specs.declared.machine.Machine.{Machine}
-use Rattle.par_meaning.specs.declared.program.Program.{Program}
+use Rattle.par_source_state.specs.declared.program.Program.{Program}
 use Rattle.par_meaning.specs.declared.work.Completion.TheVariants.{Normal}
 use Rattle.par_meaning.specs.declared.work.Next.TheVariants as next
 use Rattle.par_meaning.specs.declared.work.Then.{Then}
 use Rattle.par_meaning.specs.declared.work.Then.TheVariants.{Waits, Ends}
 use Rattle.par_meaning.specs.declared.work.Waiting.{Waiting}
 use Rattle.par_meaning.specs.declared.work.Waiting.TheVariants as waiting
-use Rattle.par_meaning.specs.Frame.{held}
-use Rattle.par_meaning.specs.Stored.{holds}
+use Rattle.par_source_state.specs.Frame.{held}
+use Rattle.par_source_state.specs.Stored.{holds}
 use Rattle.par_meaning.specs.Work.{Setting, Follows, waits, evaluates, call_parts, reads_field}
 use Rattle.par_meaning.specs.Onward.{setting, state_of, behind, goes_on, Does, Moves, Pays}
 

@@ -24,12 +24,13 @@ use Rattle.par_meaning.specs.declared.work.Then.{Then}
 use Rattle.par_meaning.specs.declared.work.Then.TheVariants.{Ends}
 use Rattle.par_meaning.specs.declared.run.SourceEvent.{SourceEvent}
 use Rattle.par_meaning.specs.declared.machine.Machine.{Machine}
-use Rattle.par_meaning.specs.Frame.{held as held_locals}
-use Rattle.par_meaning.specs.Held.{Held, keep_input, bear, write_static, write_field, write_here}
-use Rattle.par_meaning.specs.Stored.{holds}
+use Rattle.par_source_state.specs.Frame.{held as held_locals}
+use Rattle.par_source_state.specs.Held.{Held, keep_input, bear, write_static, write_field}
+use Rattle.par_source_state.specs.Held.{write_here}
+use Rattle.par_source_state.specs.Stored.{holds}
 use Rattle.par_meaning.specs.Work.{Setting, Follows}
 use Rattle.par_meaning.specs.Onward.{state, state_of, behind, witnessed, goes_on, begins, told}
-use Rattle.par_meaning.proofs.Puts.{put_here, put_other, put_two, put_three, below_is}
+use Rattle.par_source_state.proofs.Puts.{put_here, put_other, put_two, put_three, below_is}
 
 unwrapped : {A : Type 0} (b : Bool) (v d : A) (o : Option A) → unwrap_or (cond b (Some v) o) d
     ≡ cond b v (unwrap_or o d)

@@ -1,8 +1,3 @@
-pub mod Reversed
-pub mod Puts
-pub mod Locals
-pub mod Stores
-pub mod Placed
 pub mod Entered
 pub mod Called
 pub mod Happened
@@ -10,4 +5,3 @@ pub mod Started
 pub mod Taken
 pub mod Runs
 pub mod Settled
-pub mod Given

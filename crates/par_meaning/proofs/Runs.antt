@@ -19,7 +19,7 @@ use Rattle.par_run_laws.specs.Source.{start, final, source}
 use Rattle.par_run_laws.specs.State.{State}
 use Rattle.par_run_laws.specs.Tasks.{Rests}
 use Rattle.par_meaning.specs.declared.machine.Machine.{Machine}
-use Rattle.par_meaning.specs.declared.program.Program.{Program}
+use Rattle.par_source_state.specs.declared.program.Program.{Program}
 use Rattle.par_meaning.specs.declared.steps.Rest.{Rest}
 use Rattle.par_meaning.specs.declared.steps.Rest.TheVariants as rest
 use Rattle.par_meaning.specs.declared.work.Completion.{Completion}
@@ -28,10 +28,10 @@ use Rattle.par_meaning.specs.declared.work.Next.{Next}
 use Rattle.par_meaning.specs.declared.work.Next.TheVariants as next
 use Rattle.par_meaning.specs.declared.work.Then.{Then}
 use Rattle.par_meaning.specs.declared.work.Waiting.{Waiting}
-use Rattle.par_meaning.specs.Bodied.{main_body}
-use Rattle.par_meaning.specs.Frame.{Frame, held}
-use Rattle.par_meaning.specs.Held.{Held, nothing_held}
-use Rattle.par_meaning.specs.Stored.{holds}
+use Rattle.par_source_state.specs.Bodied.{main_body}
+use Rattle.par_source_state.specs.Frame.{Frame, held}
+use Rattle.par_source_state.specs.Held.{Held, nothing_held}
+use Rattle.par_source_state.specs.Stored.{holds}
 use Rattle.par_meaning.specs.Work.{Setting, Follows, left, goes, run_calls}
 use Rattle.par_meaning.specs.Onward.{setting, state, state_of, behind, onward}
 use Rattle.par_meaning.specs.Whole.{whole, ended, ends, Begins, IsNew}

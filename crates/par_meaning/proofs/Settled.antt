@@ -2,7 +2,7 @@
 use Rattle.std.proofs.Common.{◌≡◌, ℕ, suc, List, [], ◌∷◌, ap, sym, ◌∙◌}
 use Rattle.par_secrecy.specs.Runs.{Run}
 use Rattle.par_meaning.specs.declared.machine.Machine.{Machine}
-use Rattle.par_meaning.specs.declared.program.Program.{Program}
+use Rattle.par_source_state.specs.declared.program.Program.{Program}
 use Rattle.par_meaning.specs.declared.steps.Rest.TheVariants as rest
 use Rattle.par_meaning.specs.declared.work.Completion.{Completion}
 use Rattle.par_meaning.specs.declared.work.Next.{Next}

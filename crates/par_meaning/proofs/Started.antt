@@ -31,9 +31,9 @@ use Rattle.par_meaning.specs.declared.work.Then.{Then}
 use Rattle.par_meaning.specs.declared.work.Then.TheVariants.{Goes, Waits, Ends}
 use Rattle.par_meaning.specs.declared.work.Waiting.{Waiting}
 use Rattle.par_meaning.specs.declared.work.Waiting.TheVariants as waiting
-use Rattle.par_meaning.specs.Frame.{held}
-use Rattle.par_meaning.specs.Held.{Held, opens, closes}
-use Rattle.par_meaning.specs.Stored.{holds}
+use Rattle.par_source_state.specs.Frame.{held}
+use Rattle.par_source_state.specs.Held.{Held, opens, closes}
+use Rattle.par_source_state.specs.Stored.{holds}
 use Rattle.par_meaning.specs.Work.{Setting, Follows, waits, evaluates, performs, performs_else}
 use Rattle.par_meaning.specs.Work.{performs_all, handles, loops, returned, sets_field}
 use Rattle.par_meaning.specs.Onward.{state, state_of, behind, goes_on, Is, Moves}

@@ -14,7 +14,7 @@ use Rattle.par_run_laws.specs.State.{State, put}
 use Rattle.par_run_laws.specs.Tasks as exit
 use Rattle.par_run_laws.specs.Tasks.{Task, Rests, done, nothing, looped, caught}
 use Rattle.par_meaning.specs.declared.machine.Machine.{Machine}
-use Rattle.par_meaning.specs.declared.program.Program.{Program}
+use Rattle.par_source_state.specs.declared.program.Program.{Program}
 use Rattle.par_meaning.specs.declared.work.Completion.{Completion}
 use Rattle.par_meaning.specs.declared.work.Completion.TheVariants.{Normal, Abrupt}
 use Rattle.par_meaning.specs.declared.work.Exit.{Exit}
@@ -25,8 +25,8 @@ use Rattle.par_meaning.specs.declared.work.Then.{Then}
 use Rattle.par_meaning.specs.declared.work.Then.TheVariants.{Goes, Ends}
 use Rattle.par_meaning.specs.declared.work.Waiting.{Waiting}
 use Rattle.par_meaning.specs.declared.work.Waiting.TheVariants as waiting
-use Rattle.par_meaning.specs.Frame.{Frame, held}
-use Rattle.par_meaning.specs.Stored.{holds}
+use Rattle.par_source_state.specs.Frame.{Frame, held}
+use Rattle.par_source_state.specs.Stored.{holds}
 use Rattle.par_meaning.specs.Work.{Setting, Follows, waits, exit_of, completes, catch_of, handles}
 use Rattle.par_meaning.specs.Work.{performs}
 use Rattle.par_meaning.specs.Onward.{setting, state, state_of, behind, goes_on, Is, HandsOn}

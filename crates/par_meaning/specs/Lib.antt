@@ -1,9 +1,3 @@
-pub mod Frame
-pub mod Held
-pub mod Stored
-pub mod Named
-pub mod Bodied
-pub mod Lined
 pub mod Work
 pub mod Onward
 pub mod Whole

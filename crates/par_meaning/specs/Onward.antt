@@ -9,16 +9,16 @@ use Rattle.par_run_laws.specs.Source.{given_to}
 use Rattle.par_run_laws.specs.State.{State}
 use Rattle.par_run_laws.specs.Tasks.{Rest, Rests, Task, nothing}
 use Rattle.par_meaning.specs.declared.machine.Machine.{Machine}
-use Rattle.par_meaning.specs.declared.program.Program.{Program}
+use Rattle.par_source_state.specs.declared.program.Program.{Program}
 use Rattle.par_meaning.specs.declared.run.SourceEvent.{SourceEvent}
 use Rattle.par_meaning.specs.declared.work.Completion.{Completion}
 use Rattle.par_meaning.specs.declared.work.Exit.{Exit}
 use Rattle.par_meaning.specs.declared.work.Then.{Then}
 use Rattle.par_meaning.specs.declared.work.Then.TheVariants.{Goes, Waits, Ends}
 use Rattle.par_meaning.specs.declared.work.Waiting.{Waiting}
-use Rattle.par_meaning.specs.Frame.{held}
-use Rattle.par_meaning.specs.Held.{Held}
-use Rattle.par_meaning.specs.Stored.{holds, field_held}
+use Rattle.par_source_state.specs.Frame.{held}
+use Rattle.par_source_state.specs.Held.{Held}
+use Rattle.par_source_state.specs.Stored.{holds, field_held}
 use Rattle.par_meaning.specs.Work.{Setting, Follows, waits, exit_of, completes, goes}
 
 abbrev pub setting : Program → ℕ → Setting

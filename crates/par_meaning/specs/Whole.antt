@@ -19,8 +19,8 @@ use Rattle.par_meaning.specs.declared.work.Completion.TheVariants.{Normal, Abrup
 use Rattle.par_meaning.specs.declared.work.Then.{Then}
 use Rattle.par_meaning.specs.declared.work.Waiting.{Waiting}
 use Rattle.par_values.specs.declared.value.MVal.TheVariants.{Null}
-use Rattle.par_meaning.specs.Held.{nothing_held}
-use Rattle.par_meaning.specs.Stored.{holds}
+use Rattle.par_source_state.specs.Held.{nothing_held}
+use Rattle.par_source_state.specs.Stored.{holds}
 use Rattle.par_meaning.specs.Work.{Setting, Follows, left, exit_of, completes, goes, run_calls}
 use Rattle.par_meaning.specs.Onward.{state_of, behind, goes_on}
 

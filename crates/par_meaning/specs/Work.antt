@@ -19,7 +19,7 @@ use Rattle.par_run_laws.specs.Values.{truth, is_true, object_number, decides}
 use Rattle.par_run_laws.specs.Meaning.{outputs, operates, writes_static, writes_field, Calls, calls}
 use Rattle.par_run_laws.specs.Meaning.{eval, eval_all, go, go_else, go_all, go_catch, method}
 use Rattle.par_run_laws.specs.Source.{final}
-use Rattle.par_meaning.specs.Frame.{held, left_by}
+use Rattle.par_source_state.specs.Frame.{held, left_by}
 use Rattle.par_meaning.specs.declared.work.Completion.{Completion}
 use Rattle.par_meaning.specs.declared.work.Completion.TheVariants.{Normal, Abrupt}
 use Rattle.par_meaning.specs.declared.work.Exit.{Exit}

@@ -12,9 +12,9 @@ ghost use Rattle.par_meaning.specs.Work.{evaluates_all, first_of};
 
 use crate::machine::Machine;
 use crate::operators::is_there;
-use crate::program::Program;
 use crate::work::{Exit, FINE, NULL_POINTER, Next, Target, Then, Waiting};
 use par_base::memory::NoMemory;
+use par_source_state::Program;
 use par_typed::expr::TExpr;
 use par_values::value::MVal;
 

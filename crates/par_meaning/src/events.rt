@@ -6,16 +6,15 @@ ghost use Rattle.par_run_laws.specs.Meaning.{outputs, inputs, born};
 ghost use Rattle.par_run_laws.specs.Names.{made_named, channel_named};
 ghost use Rattle.par_run_laws.specs.Source.{given_to};
 ghost use Rattle.par_run_laws.specs.Tasks.{named};
-ghost use Rattle.par_meaning.specs.Stored.{holds};
+ghost use Rattle.par_source_state.specs.Stored.{holds};
 ghost use Rattle.par_meaning.specs.Onward.{Does, told};
 
 use crate::machine::Machine;
-use crate::names;
 use crate::operators::{constant, number};
-use crate::program::Program;
 use crate::run::SourceEvent;
 use crate::work::{FINE, Then};
 use par_base::memory::NoMemory;
+use par_source_state::{Program, names};
 use par_values::run::Event;
 use par_values::value::MVal;
 

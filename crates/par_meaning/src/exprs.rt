@@ -10,10 +10,10 @@ use crate::events::{born, input};
 use crate::fields::static_field;
 use crate::machine::Machine;
 use crate::operators::{constant, truth};
-use crate::program::Program;
 use crate::work::{Target, Then, Waiting};
 use par_base::list::List;
 use par_base::memory::NoMemory;
+use par_source_state::Program;
 use par_typed::expr::{TExpr, TExprKind};
 use par_values::value::MVal;
 

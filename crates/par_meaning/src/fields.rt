@@ -4,17 +4,16 @@ ghost use Rattle.std.specs.Prelude.{◌≡◌, unwrap_or, IfOk};
 ghost use Rattle.par_run_laws.specs.Meaning.{writes_static, writes_field};
 ghost use Rattle.par_run_laws.specs.Names.{first_field};
 ghost use Rattle.par_run_laws.specs.Values.{shown_value, object_number};
-ghost use Rattle.par_meaning.specs.Stored.{holds, field_held};
+ghost use Rattle.par_source_state.specs.Stored.{holds, field_held};
 ghost use Rattle.par_meaning.specs.Onward.{Does};
 ghost use Rattle.par_meaning.specs.Work.{reads_field, sets_field};
 
 use crate::events::tell;
 use crate::machine::Machine;
-use crate::names;
 use crate::operators::{is_there, object_number};
-use crate::program::Program;
 use crate::work::{Exit, FINE, NULL_POINTER, Then};
 use par_base::memory::NoMemory;
+use par_source_state::{Program, names};
 use par_values::run::{Event, Val};
 use par_values::value::MVal;
 

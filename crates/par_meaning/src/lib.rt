@@ -8,23 +8,16 @@
 #![tactic(auto)]
 
 mod accept;
-mod bodies;
 mod calls;
 mod events;
 mod exprs;
 mod fields;
-mod frames;
-mod lines;
 mod machine;
-mod names;
 mod operators;
-mod program;
 mod run;
 mod source;
-mod stack;
 mod steps;
 mod stmts;
-mod store;
 mod unwind;
 mod work;
 

@@ -2,11 +2,9 @@
 
 ghost use Rattle.par_meaning.specs.Whole.{IsNew};
 
-use crate::frames::Frames;
 use crate::run::SourceEvent;
-use crate::stack::Stack;
-use crate::store::Store;
 use par_base::list::List;
+use par_source_state::{Frames, Stack, Store};
 use par_values::value::MVal;
 use std::alloc::Global;
 

@@ -3,19 +3,16 @@
 ghost use Rattle.std.specs.Prelude.{◌≡◌, ℕ, IfOk};
 ghost use Rattle.par_run_laws.specs.Names.{class_named};
 ghost use Rattle.par_run_laws.specs.Source.{source, uncaught};
-ghost use Rattle.par_meaning.specs.Bodied.{main_body};
+ghost use Rattle.par_source_state.specs.Bodied.{main_body};
 ghost use Rattle.par_meaning.specs.Onward.{setting};
 ghost use Rattle.par_meaning.specs.Whole.{Begins, IsNew, ended, ends, as_run};
 
-use crate::bodies::main_body;
 use crate::machine::Machine;
-use crate::names;
-use crate::program::Program;
 use crate::run::SourceRun;
-use crate::stack::Stack;
 use crate::steps::{Rest, settle, step};
 use crate::work::{Completion, Exit, FINE, Next, Then};
 use par_base::memory::NoMemory;
+use par_source_state::{Program, Stack, main_body, names};
 use par_typed::program::Typed;
 use par_values::inputs::Inputs;
 use par_values::run::Ending;

@@ -9,12 +9,11 @@ use crate::accept::accept;
 use crate::calls::enter_body;
 use crate::exprs::enter_expr;
 use crate::machine::Machine;
-use crate::program::Program;
-use crate::stack::Stack;
 use crate::stmts::enter_stmt;
 use crate::unwind::unwind;
 use crate::work::{Completion, Next, Then, Waiting};
 use par_base::memory::NoMemory;
+use par_source_state::{Program, Stack};
 
 /// What is left, where nothing can be done without a further step.
 #[derive(Clone, Copy)]

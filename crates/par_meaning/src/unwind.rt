@@ -5,7 +5,7 @@ ghost use Rattle.par_typed.specs.Shown.{shown, does, all_catch};
 ghost use Rattle.par_meaning.specs.declared.work.Completion.TheVariants.{Abrupt};
 ghost use Rattle.par_run_laws.specs.Tasks.{looped, caught};
 ghost use Rattle.par_meaning.specs.Onward.{Exits, HandsOn, Is};
-ghost use Rattle.par_meaning.specs.Bodied.{body_shown};
+ghost use Rattle.par_source_state.specs.Bodied.{body_shown};
 ghost use Rattle.par_meaning.specs.Work.{catch_of, handles, loops};
 
 use crate::calls::leave_by;

@@ -1,7 +1,7 @@
 use Rattle.std.proofs.Common.{ap, sym, ◌∙◌}
-use Rattle.par_meaning.specs.Bodied.{body_shown}
+use Rattle.par_source_state.specs.Bodied.{body_shown}
 use Rattle.par_meaning.specs.Onward.{behind, setting}
-use Rattle.par_meaning.specs.Stored.{holds}
+use Rattle.par_source_state.specs.Stored.{holds}
 use Rattle.par_meaning.proofs.Called.{bodyless, entered_body}
 use Rattle.par_meaning.proofs.calls.enter_body.Goals as goal
 

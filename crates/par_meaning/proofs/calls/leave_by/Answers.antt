@@ -1,7 +1,7 @@
 use Rattle.std.proofs.Common.{ap, ◌∙◌}
 use Rattle.par_run_laws.specs.Tasks.{nothing}
 use Rattle.par_meaning.specs.declared.work.Completion.TheVariants.{Abrupt}
-use Rattle.par_meaning.specs.Frame.{held, left_by}
+use Rattle.par_source_state.specs.Frame.{held, left_by}
 use Rattle.par_meaning.specs.Onward.{behind, state_of}
 use Rattle.par_meaning.proofs.Called.{left_behind, thrown_out, let_out}
 use Rattle.par_meaning.proofs.calls.leave_by.Goals as goal

@@ -1,5 +1,5 @@
 use Rattle.std.proofs.Common.{ap, sym, Some, ◌∙◌, arith}
-use Rattle.par_meaning.specs.Stored.{holds}
+use Rattle.par_source_state.specs.Stored.{holds}
 use Rattle.par_meaning.specs.Onward.{setting}
 use Rattle.par_meaning.proofs.Happened.{born_told}
 use Rattle.par_meaning.proofs.events.born.Goals as goal

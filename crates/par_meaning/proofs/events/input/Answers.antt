@@ -1,6 +1,6 @@
 use Rattle.std.proofs.Common.{ap, sym, ◌∙◌, refl, []}
-use Rattle.par_meaning.specs.Frame.{held as held_locals}
-use Rattle.par_meaning.specs.Stored.{holds}
+use Rattle.par_source_state.specs.Frame.{held as held_locals}
+use Rattle.par_source_state.specs.Stored.{holds}
 use Rattle.par_meaning.specs.Onward.{onward, behind, setting}
 use Rattle.par_meaning.proofs.Happened.{took, no_numbers}
 use Rattle.par_meaning.proofs.events.input.Goals as goal

@@ -1,7 +1,7 @@
 use Rattle.std.proofs.Common.{sym}
-use Rattle.par_meaning.specs.Named.{member_is}
+use Rattle.par_source_state.specs.Named.{member_is}
 use Rattle.par_meaning.specs.Onward.{setting}
-use Rattle.par_meaning.specs.Stored.{holds}
+use Rattle.par_source_state.specs.Stored.{holds}
 use Rattle.par_meaning.proofs.Happened.{field_told}
 use Rattle.par_meaning.proofs.fields.write_object.Goals as goal
 

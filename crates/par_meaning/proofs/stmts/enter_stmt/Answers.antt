@@ -1,5 +1,5 @@
 use Rattle.std.proofs.Common.{refl}
-use Rattle.par_meaning.specs.Stored.{holds}
+use Rattle.par_source_state.specs.Stored.{holds}
 use Rattle.par_meaning.proofs.Started as started
 use Rattle.par_meaning.proofs.stmts.enter_stmt.Goals as goal
 

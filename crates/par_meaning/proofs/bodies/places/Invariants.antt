@@ -1,6 +1,0 @@
-use Rattle.std.proofs.Common.{◌≡◌, take}
-use Rattle.par_meaning.specs.Bodied.{methods}
-use Rattle.par_meaning.proofs.bodies.places.Given as goal
-
-abbrev pub invariant-loop-body : goal.invariant-loop-body
-invariant-loop-body l = l.methods.items ≡ methods (take l.body-index l.all)

@@ -1,6 +1,0 @@
-use Rattle.std.proofs.Common.{◌≡◌, take}
-use Rattle.par_meaning.specs.Lined.{named, names_shown}
-use Rattle.par_meaning.proofs.lines.Lines.of.Given as goal
-
-abbrev pub invariant-loop-line : goal.invariant-loop-line
-invariant-loop-line l = names_shown l.names.items ≡ named (take l.line-index l.all)
