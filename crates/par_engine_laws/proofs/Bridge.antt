@@ -15,9 +15,9 @@ use Rattle.par_step_laws.specs.Methods.{method_code}
 use Rattle.par_step_laws.specs.par_link.Linked.{named_at}
 use Rattle.par_values.specs.Effects.{Effect, Goes, Happens, Jumps, Calls, Throws, ThrowsObject}
 use Rattle.par_values.specs.Effects.{Returns, ReturnsWith}
-use Rattle.par_step_laws.specs.par_link.declared.entry.Builtin.TheVariants as builtin
-use Rattle.par_step_laws.specs.par_link.declared.entry.Named.{Named}
-use Rattle.par_step_laws.specs.par_link.declared.entry.Named.TheVariants as named
+use Rattle.par_step_laws.specs.par_link.entry.Builtin.TheVariants as builtin
+use Rattle.par_step_laws.specs.par_link.entry.Named.{Named}
+use Rattle.par_step_laws.specs.par_link.entry.Named.TheVariants as named
 use Rattle.par_step_laws.specs.State.{Frame, State}
 use Rattle.par_step_laws.specs.Step.{Turn, Silent, Shows, Ends, IsBad}
 use Rattle.par_step_laws.specs.Step as steps

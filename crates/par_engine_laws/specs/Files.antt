@@ -3,9 +3,9 @@ use Rattle.std.specs.Prelude.{ℕ, Bool, true, false, List, [], Option, Some, No
 use Rattle.par_instr.specs.Decoding.{Decoded, decoded_at}
 use Rattle.par_step_laws.specs.par_class.declared.file.ClassFile.{ClassFile}
 use Rattle.par_values.specs.Operations.{operation}
-use Rattle.par_step_laws.specs.par_link.declared.entry.Builtin.TheVariants as builtin
-use Rattle.par_step_laws.specs.par_link.declared.entry.Named.{Named}
-use Rattle.par_step_laws.specs.par_link.declared.entry.Named.TheVariants.{Initializer}
+use Rattle.par_step_laws.specs.par_link.entry.Builtin.TheVariants as builtin
+use Rattle.par_step_laws.specs.par_link.entry.Named.{Named}
+use Rattle.par_step_laws.specs.par_link.entry.Named.TheVariants.{Initializer}
 use Rattle.par_step_laws.specs.par_link.Linked.{named_at}
 use Rattle.par_step_laws.specs.par_single.Links.{signature_said}
 use Rattle.par_step_laws.specs.par_single.Walk.{stands_at}

@@ -7,7 +7,7 @@ use Rattle.par_instr.specs.declared.instr.Instr.TheVariants as instr
 use Rattle.par_values.specs.declared.kind.Kind.{Kind}
 use Rattle.par_values.specs.declared.link.Link.TheVariants as link
 use Rattle.par_values.specs.Operations.{operation}
-use Rattle.par_link.specs.declared.entry.Named.TheVariants as named
+use Rattle.par_link.specs.entry.Named.TheVariants as named
 use Rattle.par_frame_steps.specs.par_kinds.Linked.{acted}
 use Rattle.par_frame_steps.specs.par_kinds.Shapes as shapes
 use Rattle.par_frame_steps.specs.par_kinds.Shapes.{Shape}

@@ -7,7 +7,7 @@ ghost use Rattle.par_values.specs.declared.kind.Kind.TheVariants as asks;
 ghost use Rattle.par_frame_steps.specs.par_kinds.declared.frame.VKind.TheVariants as kind;
 ghost use Rattle.par_frame_steps.specs.par_kinds.Acts as meaning;
 ghost use Rattle.par_values.specs.declared.link.Link.TheVariants as link;
-ghost use Rattle.par_link.specs.declared.entry.Named.TheVariants as named;
+ghost use Rattle.par_link.specs.entry.Named.TheVariants as named;
 ghost use Rattle.par_single.specs.Descriptors.{kind_of};
 ghost use Rattle.par_frame_steps.specs.par_kinds.Linked.{acted};
 ghost use Rattle.par_frame_steps.specs.par_kinds.Shapes as shapes;

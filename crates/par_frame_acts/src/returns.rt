@@ -3,7 +3,7 @@
 ghost use Rattle.std.specs.Prelude.{◌≡◌, [], option_map, IfOk};
 ghost use Rattle.par_values.specs.Operations.{Leave, LeaveWith};
 ghost use Rattle.par_values.specs.Reasons.{is_result};
-ghost use Rattle.par_link.specs.declared.entry.Named.TheVariants as named;
+ghost use Rattle.par_link.specs.entry.Named.TheVariants as named;
 ghost use Rattle.par_single.specs.Descriptors.{kind_of};
 ghost use Rattle.par_single.specs.Links.{kind_or_any};
 ghost use Rattle.par_frame_steps.specs.par_kinds.Linked.{acted};

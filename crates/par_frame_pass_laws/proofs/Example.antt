@@ -6,7 +6,7 @@ use Rattle.par_instr.specs.Decoding.{instruction}
 use Rattle.par_kinds.specs.par_class.declared.file.CodeAttr.{CodeAttr}
 use Rattle.par_values.specs.Operations.{operation}
 use Rattle.par_values.specs.declared.link.Link.TheVariants as link
-use Rattle.par_kinds.specs.par_link.declared.entry.Named.TheVariants as named
+use Rattle.par_kinds.specs.par_link.entry.Named.TheVariants as named
 use Rattle.par_kinds.specs.par_single.Walk.{starts_after}
 use Rattle.par_kinds.specs.declared.frame.VKind.TheVariants.{Top as ATop}
 use Rattle.par_kinds.specs.declared.frame.VKind.TheVariants.{Base as ABase}

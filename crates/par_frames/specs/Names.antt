@@ -9,8 +9,8 @@ use Rattle.par_frame_forms.specs.par_pool.declared.constant.Constant.TheVariants
 use Rattle.par_frame_forms.specs.par_pool.Entries.{entry_at, IsClassAt}
 use Rattle.par_kinds.specs.par_values.Areas.{Name}
 use Rattle.par_kinds.specs.par_single.Members.{text_at}
-use Rattle.par_kinds.specs.par_link.declared.entry.Builtin.{Builtin}
-use Rattle.par_kinds.specs.par_link.declared.entry.Builtin.TheVariants as builtin
+use Rattle.par_kinds.specs.par_link.entry.Builtin.{Builtin}
+use Rattle.par_kinds.specs.par_link.entry.Builtin.TheVariants as builtin
 use Rattle.par_kinds.specs.par_link.Builtins as builtins
 use Rattle.par_frame_forms.specs.declared.form.PlaceType.{PlaceType}
 use Rattle.par_frame_forms.specs.declared.form.PlaceType.TheVariants as place

@@ -24,8 +24,8 @@ use Rattle.par_values.specs.Areas.{Name}
 use Rattle.par_values.specs.Operations.{Operation, operation, of_class, of_field, of_method}
 use Rattle.par_values.specs.Operations.{GetStatic, PutStatic, GetField, PutField, InvokeStatic}
 use Rattle.par_values.specs.Operations.{InvokeSpecial, InvokeVirtual, Misnamed}
-use Rattle.par_link.specs.declared.entry.Named.{Named}
-use Rattle.par_link.specs.declared.entry.Named.TheVariants as named
+use Rattle.par_link.specs.entry.Named.{Named}
+use Rattle.par_link.specs.entry.Named.TheVariants as named
 use Rattle.par_link.specs.Named.{method_declared}
 use Rattle.par_placed_fit_laws.specs.par_step_laws.Links.{link_at, lock_link}
 use Rattle.par_placed_fit_laws.specs.par_step_laws.Methods.{class_pool}

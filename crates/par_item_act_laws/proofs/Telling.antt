@@ -29,9 +29,9 @@ use Rattle.par_values.specs.Arithmetic.{Operator}
 use Rattle.par_values.specs.Operations.{GetStatic, PutStatic, GetField, PutField}
 use Rattle.par_values.specs.Operations.{InvokeStatic, InvokeSpecial, InvokeVirtual, Misnamed}
 use Rattle.par_values.specs.Operations.{of_field, of_method, of_class, Leave}
-use Rattle.par_link.specs.declared.entry.Builtin.TheVariants as builtin
-use Rattle.par_link.specs.declared.entry.Named.{Named}
-use Rattle.par_link.specs.declared.entry.Named.TheVariants as named
+use Rattle.par_link.specs.entry.Builtin.TheVariants as builtin
+use Rattle.par_link.specs.entry.Named.{Named}
+use Rattle.par_link.specs.entry.Named.TheVariants as named
 use Rattle.par_link.specs.Named.{method_declared}
 use Rattle.par_placed_fit_laws.specs.par_step_laws.Classes.{class_names, exceptions}
 use Rattle.par_evaluation_laws.specs.par_engine_laws.Files.{is_of_exceptions}

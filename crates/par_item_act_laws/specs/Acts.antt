@@ -4,8 +4,8 @@ use Rattle.par_class.specs.declared.file.ClassFile.{ClassFile}
 use Rattle.par_values.specs.declared.kind.Kind.{Kind}
 use Rattle.par_values.specs.declared.link.Link.TheVariants as link
 use Rattle.par_values.specs.Operations.{Operation, Push, Leave, operation, of_class}
-use Rattle.par_link.specs.declared.entry.Named.{Named}
-use Rattle.par_link.specs.declared.entry.Named.TheVariants as named
+use Rattle.par_link.specs.entry.Named.{Named}
+use Rattle.par_link.specs.entry.Named.TheVariants as named
 use Rattle.par_link.specs.Named.{method_declared}
 use Rattle.par_placed_fit_laws.specs.par_step_laws.Links.{lock_link}
 use Rattle.par_code_form.specs.declared.item.Item.{Item}

@@ -20,10 +20,10 @@ use Rattle.par_step_laws.specs.par_values.Operations.{InvokeSpecial, InvokeVirtu
 use Rattle.par_step_laws.specs.par_values.Operations.{Leave}
 use Rattle.par_step_laws.specs.par_values.Operations.{LeaveWith, operation, takes}
 use Rattle.par_step_laws.specs.par_values.Reasons.{misnamed, disagrees, is_result}
-use Rattle.par_step_laws.specs.par_link.declared.entry.Builtin.{Builtin}
-use Rattle.par_step_laws.specs.par_link.declared.entry.Builtin.TheVariants as builtin
-use Rattle.par_step_laws.specs.par_link.declared.entry.Named.{Named}
-use Rattle.par_step_laws.specs.par_link.declared.entry.Named.TheVariants as named
+use Rattle.par_step_laws.specs.par_link.entry.Builtin.{Builtin}
+use Rattle.par_step_laws.specs.par_link.entry.Builtin.TheVariants as builtin
+use Rattle.par_step_laws.specs.par_link.entry.Named.{Named}
+use Rattle.par_step_laws.specs.par_link.entry.Named.TheVariants as named
 use Rattle.par_step_laws.specs.par_link.Linked.{named_at}
 use Rattle.par_step_laws.specs.par_single.Members.{is_static}
 use Rattle.par_step_laws.specs.par_single.Links.{signature_said, kind_or_any}

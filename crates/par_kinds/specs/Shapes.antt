@@ -17,10 +17,10 @@ use Rattle.par_step_laws.specs.par_values.declared.link.Link.{Link}
 use Rattle.par_step_laws.specs.par_values.declared.link.Link.TheVariants as link
 use Rattle.par_step_laws.specs.par_values.Areas.{Name}
 use Rattle.par_step_laws.specs.par_values.Operations.{operation}
-use Rattle.par_step_laws.specs.par_link.declared.entry.Builtin.{Builtin}
-use Rattle.par_step_laws.specs.par_link.declared.entry.Builtin.TheVariants as builtin
-use Rattle.par_step_laws.specs.par_link.declared.entry.Named.{Named}
-use Rattle.par_step_laws.specs.par_link.declared.entry.Named.TheVariants as named
+use Rattle.par_step_laws.specs.par_link.entry.Builtin.{Builtin}
+use Rattle.par_step_laws.specs.par_link.entry.Builtin.TheVariants as builtin
+use Rattle.par_step_laws.specs.par_link.entry.Named.{Named}
+use Rattle.par_step_laws.specs.par_link.entry.Named.TheVariants as named
 use Rattle.par_step_laws.specs.par_link.Builtins as builtins
 use Rattle.par_step_laws.specs.par_link.Linked.{named_at}
 use Rattle.par_step_laws.specs.par_link.Named.{field_declared, method_declared}

@@ -26,7 +26,7 @@ use Rattle.par_run_laws.specs.Names.{body_of}
 use Rattle.par_single.specs.Members.{Member, text_at, is_static, is_initializer}
 use Rattle.par_single.specs.Links.{signature_said, locals_of}
 use Rattle.par_single.specs.Described.{method_named}
-use Rattle.par_naming_laws.specs.par_link.declared.entry.Named.TheVariants as named
+use Rattle.par_naming_laws.specs.par_link.entry.Named.TheVariants as named
 use Rattle.par_naming_laws.specs.par_link.Named.{is_same, methods_of, declared, method_of}
 use Rattle.par_naming_laws.specs.par_link.Named.{method_declared}
 use Rattle.par_naming_laws.proofs.par_link.Faultless.{unbroken, methods-apart}

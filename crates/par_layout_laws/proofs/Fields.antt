@@ -19,7 +19,7 @@ use Rattle.par_values.specs.Areas.{Name}
 use Rattle.par_single.specs.Members.{Member, text_at, is_static}
 use Rattle.par_single.specs.Links.{kind_or_any, kind_said}
 use Rattle.par_single.specs.Described.{field_named}
-use Rattle.par_naming_laws.specs.par_link.declared.entry.Named.TheVariants as named
+use Rattle.par_naming_laws.specs.par_link.entry.Named.TheVariants as named
 use Rattle.par_naming_laws.specs.par_link.Firsts.{first_repeated}
 use Rattle.par_naming_laws.specs.par_link.Named.{is_same, fields_of, declared, field_of}
 use Rattle.par_naming_laws.specs.par_link.Named.{field_declared}

@@ -12,7 +12,7 @@ use Rattle.par_typed.specs.Plain.{Body}
 use Rattle.par_table_laws.proofs.Names.{names_stand_once}
 use Rattle.par_class.specs.declared.file.ClassFile.{ClassFile}
 use Rattle.par_single.specs.Members.{own_name, own_names}
-use Rattle.par_naming_laws.specs.par_link.declared.entry.Named.TheVariants as named
+use Rattle.par_naming_laws.specs.par_link.entry.Named.TheVariants as named
 use Rattle.par_naming_laws.specs.par_link.Named.{class_named, class_of, listed, class_place}
 use Rattle.par_naming_laws.proofs.par_link.Faultless.{own-name}
 use Rattle.par_code_form.specs.Named.{of_class, class_word}

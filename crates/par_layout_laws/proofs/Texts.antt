@@ -9,10 +9,10 @@ use Rattle.par_pool.specs.declared.constant.Constant.{Constant}
 use Rattle.par_pool.specs.Entries.{IsUtf8At, IsClassAt}
 use Rattle.par_values.specs.Areas.{Name}
 use Rattle.par_single.specs.Members.{text_of, text_at, class_name_of, class_name_at}
-use Rattle.par_naming_laws.specs.par_link.declared.entry.Builtin.TheVariants.{Object, Exception}
-use Rattle.par_naming_laws.specs.par_link.declared.entry.Builtin.TheVariants.{ArithmeticException}
-use Rattle.par_naming_laws.specs.par_link.declared.entry.Builtin.TheVariants.{NullPointerException}
-use Rattle.par_naming_laws.specs.par_link.declared.entry.Builtin.TheVariants.{Locks}
+use Rattle.par_naming_laws.specs.par_link.entry.Builtin.TheVariants.{Object, Exception}
+use Rattle.par_naming_laws.specs.par_link.entry.Builtin.TheVariants.{ArithmeticException}
+use Rattle.par_naming_laws.specs.par_link.entry.Builtin.TheVariants.{NullPointerException}
+use Rattle.par_naming_laws.specs.par_link.entry.Builtin.TheVariants.{Locks}
 use Rattle.par_naming_laws.specs.par_link.Builtins.{builtin}
 
 -- ---- texts

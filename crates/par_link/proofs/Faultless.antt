@@ -12,16 +12,16 @@ use Rattle.par_single.specs.par_class.declared.file.FieldFile.{FieldFile}
 use Rattle.par_single.specs.par_class.declared.file.MethodFile.{MethodFile}
 use Rattle.par_single.proofs.par_pool.Positions.{position-none}
 use Rattle.par_index.proofs.Places.{any-map, position-is_some}
-use Rattle.par_link.proofs.Passing.{eq_turned}
+use Rattle.par_references.proofs.Passing.{eq_turned}
 use Rattle.par_index.specs.par_base.Names.{IsName}
-use Rattle.par_link.specs.Conditions.{IsSmall}
+use Rattle.par_references.specs.Conditions.{IsSmall}
 use Rattle.par_link.specs.Linked.{AreLinked}
 use Rattle.par_link.specs.Order.{at, in_class, member_fault, description_fault, constant_fault}
 use Rattle.par_link.specs.Order.{code_fault, file_fault, first_in, list_fault, first_broken}
 use Rattle.par_link.specs.Rules.{repeated_class, repeated_field, repeated_method, wrong_field}
 use Rattle.par_link.specs.Rules.{wrong_method, earlier}
-use Rattle.par_link.specs.Named.{is_same, methods_of}
-use Rattle.par_link.specs.Firsts.{first_repeated}
+use Rattle.par_references.specs.Named.{is_same, methods_of}
+use Rattle.par_references.specs.Firsts.{first_repeated}
 use Rattle.par_single.specs.Members.{own_name, own_names}
 use Rattle.par_single.specs.Described.{is_taken, is_field_right, is_method_right}
 use Rattle.par_inputs.specs.par_values.Areas.{Name}

@@ -1,11 +1,11 @@
 -- The index of each broken rule fits four bytes.
-use Rattle.std.proofs.Common.{◌≡◌, ℕ, suc, ◌+◌, ◌-◌, ◌<◌, ◌≤◌, ◌^◌, Bool, true, false, cond, List}
-use Rattle.std.proofs.Common.{[], ◌∷◌, ◌++◌, length, Some, None, Option, refl, sym, subst, arith}
+use Rattle.std.proofs.Common.{◌≡◌, ℕ, suc, ◌-◌, ◌<◌, ◌≤◌, ◌^◌, Bool, true, List, [], ◌∷◌, length}
+use Rattle.std.proofs.Common.{Some, None, Option, sym, subst, arith}
 use Rattle.std.specs.Prelude.{IfSome}
 use Rattle.std.proofs.lemmas.Bool.{and_parts, leb-true}
 use Rattle.std.specs.Option.{option_map, option_or, option_and_then}
-use Rattle.std.proofs.lemmas.List.{length-map, length-append}
-use Rattle.std.specs.List.{list_all, list_any, position}
+use Rattle.std.proofs.lemmas.List.{length-map}
+use Rattle.std.specs.List.{list_all, position}
 use Rattle.par_single.specs.par_class.declared.file.ClassFile.{ClassFile}
 use Rattle.par_single.specs.par_class.declared.file.CodeAttr.{CodeAttr}
 use Rattle.par_single.specs.par_class.declared.file.MethodFile.{MethodFile}
@@ -13,55 +13,14 @@ use Rattle.par_single.specs.Described.{field_named, method_named}
 use Rattle.par_link.specs.declared.fault.Fault.{Fault}
 use Rattle.par_link.specs.declared.sort.Sort.{Sort}
 use Rattle.par_link.specs.declared.sort.Sort.TheVariants.{Class, Field, Method}
-use Rattle.par_link.specs.Conditions.{is_short, IsSmall}
-use Rattle.par_link.specs.Firsts.{repeated_after, first_repeated}
-use Rattle.par_link.specs.Named.{is_same, fields_of, methods_of}
-use Rattle.par_link.specs.Rules.{earlier, repeated_field, repeated_method, wrong_field}
+use Rattle.par_references.specs.Conditions.{is_short, IsSmall}
+use Rattle.par_references.specs.Named.{is_same, fields_of, methods_of}
+use Rattle.par_references.proofs.Below.{IsBelow, cond-below, first-below, place-below}
+use Rattle.par_link.specs.Rules.{repeated_field, repeated_method, wrong_field}
 use Rattle.par_link.specs.Rules.{wrong_method, is_absent, absent, unlisted, cut}
 use Rattle.par_link.specs.Stops.{left, stop_at, stop_in, first_stop, is_unlisted, is_cut}
 use Rattle.par_link.specs.Order.{at, member_fault, description_fault, constant_fault, code_fault}
 use Rattle.par_link.specs.Order.{file_fault}
-use Rattle.par_index.proofs.Places.{position-within}
-
--- a place that is found is below a bound
-abbrev pub IsBelow : ℕ → Option ℕ → Type 0
-IsBelow bound o = IfSome o (λ place. place < bound)
-
-from-each : {A : Type 0} (o : Option A) (P : A → Type 0) → ((x : A) → o ≡ Some x → P x) → IfSome o P
-from-each None P each = tt
-from-each (Some x) P each = each x refl
-
-cond-below : (bound place : ℕ) (b : Bool) (o : Option ℕ) → place < bound → IsBelow bound o
-    → IsBelow bound (cond b (Some place) o)
-cond-below bound place true o here later = here
-cond-below bound place false o here later = later
-
-repeated-below : {A : Type 0} (same : A → A → Bool) (bound : ℕ) (before xs : List A)
-    → length before + length xs ≤ bound
-    → IsBelow bound (repeated_after same before xs)
-unfolding repeated_after
-repeated-below same bound before [] few = tt
-repeated-below same bound before (x ∷ xs) few =
-    let more : length (before ++ x ∷ []) ≡ length before + 1 = length-append before (x ∷ []) in
-    cond-below bound (length before) (list_any (same x) before)
-    (repeated_after same (before ++ x ∷ []) xs) (omega arith)
-    (repeated-below same bound (before ++ x ∷ []) xs (omega arith))
-
-pub first-below : {A : Type 0} (same : A → A → Bool) (bound : ℕ) (xs : List A) → length xs ≤ bound
-    → IsBelow bound (first_repeated same xs)
-first-below same bound xs few = repeated-below same bound [] xs (omega arith)
-
-pub place-below : {A : Type 0} (p : A → Bool) (bound : ℕ) (xs : List A) → length xs ≤ bound
-    → IsBelow bound (position p xs)
-place-below p bound xs few =
-    from-each (position p xs) (λ place. place < bound)
-    (λ n e. let within = position-within p xs n e in omega arith)
-
-pub earlier-below : (bound : ℕ) (a b : Option ℕ) → IsBelow bound a → IsBelow bound b
-    → IsBelow bound (earlier a b)
-earlier-below bound None b here later = later
-earlier-below bound (Some n) None here later = here
-earlier-below bound (Some n) (Some m) here later = let n_below : n < bound = here in omega arith
 
 -- ---- code
 

@@ -4,10 +4,10 @@ use Rattle.std.proofs.Common.{◌∙◌}
 use Rattle.std.specs.Option.{option_map, option_map_or, unwrap_or}
 use Rattle.std.proofs.lemmas.Option.{slice_get-map}
 use Rattle.par_single.specs.par_class.declared.file.ClassFile.{ClassFile}
-use Rattle.par_link.specs.declared.entry.Named.{Named}
-use Rattle.par_link.specs.declared.entry.Named.TheVariants.{Nothing}
+use Rattle.par_references.specs.declared.entry.Named.{Named}
+use Rattle.par_references.specs.declared.entry.Named.TheVariants.{Nothing}
 use Rattle.par_link.specs.Linked.{name_at, named_in, named_at}
-use Rattle.par_link.specs.Named.{named_by, names_of}
+use Rattle.par_references.specs.Named.{named_by, names_of}
 
 of-map : {A B : Type 0} (f : A → B) (o : Option A) (other : B)
     → unwrap_or (option_map f o) other ≡ option_map_or f o other

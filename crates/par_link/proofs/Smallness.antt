@@ -12,7 +12,7 @@ use Rattle.par_single.specs.par_class.declared.file.Piece.TheVariants.{Plain, Co
 use Rattle.par_single.specs.par_class.Layout.{Method, Layout, later, method_of, file_of}
 use Rattle.par_single.specs.par_class.Layout as layout
 use Rattle.par_single.specs.par_class.Spelling.{FitsPiece, FitsMethod, IsLayout, Spells}
-use Rattle.par_link.specs.Conditions.{is_short, IsSmall}
+use Rattle.par_references.specs.Conditions.{is_short, IsSmall}
 
 later-short : (o : Option CodeAttr) (c : CodeAttr) → is_short o ≡ true → is_short (Some c) ≡ true
     → is_short (Some (later o c)) ≡ true

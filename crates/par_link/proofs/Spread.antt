@@ -13,7 +13,7 @@ use Rattle.par_single.specs.par_class.declared.file.ClassFile.{ClassFile}
 use Rattle.par_single.specs.par_class.declared.file.MethodFile.{MethodFile}
 use Rattle.par_single.specs.Descriptors.{Text}
 use Rattle.par_single.specs.Members.{text_at, own_name}
-use Rattle.par_link.specs.declared.entry.Declared.{Declared}
+use Rattle.par_references.specs.declared.entry.Declared.{Declared}
 use Rattle.par_link.specs.Channels.{is_channel_in, is_channel, hash_of, bucket_at, bucket_of, Keeps}
 use Rattle.par_link.specs.Channels.{AreIn, AreSpread}
 use Rattle.par_link.specs.Inputs.{is_input, is_input_of, has_input_in, has_input}

@@ -5,7 +5,7 @@ use Rattle.std.proofs.lemmas.Bool.{and_parts, or_parts, not-true}
 use Rattle.std.proofs.lemmas.List.Folds.{list_any-append}
 use Rattle.std.specs.List.{list_all, list_any}
 use Rattle.par_single.specs.Described.{differ}
-use Rattle.par_link.specs.Firsts.{repeated_after, first_repeated}
+use Rattle.par_references.specs.Firsts.{repeated_after, first_repeated}
 
 module _ {A : Type 0} (same : A → A → Bool) where
   -- an item is the same as none of these

@@ -9,7 +9,7 @@ use Rattle.par_single.specs.par_class.declared.file.ClassFile.{ClassFile}
 use Rattle.par_single.specs.par_class.declared.file.MethodFile.{MethodFile}
 use Rattle.par_single.specs.Descriptors.{Text}
 use Rattle.par_single.specs.Members.{text_at, own_name}
-use Rattle.par_link.specs.declared.entry.Declared.{Declared}
+use Rattle.par_references.specs.declared.entry.Declared.{Declared}
 use Rattle.par_link.specs.Inputs.{is_input, is_input_of}
 
 -- whether the method at a place of a file is an input channel of this class and name

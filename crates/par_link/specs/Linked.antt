@@ -7,12 +7,12 @@ use Rattle.par_index.specs.par_base.Names.{IsName}
 use Rattle.par_single.specs.par_pool.Entries.{entry_at}
 use Rattle.par_single.specs.par_class.declared.file.ClassFile.{ClassFile}
 use Rattle.par_single.specs.Members.{own_name}
-use Rattle.par_link.specs.declared.entry.Declared.{Declared}
-use Rattle.par_link.specs.declared.entry.Named.{Named}
-use Rattle.par_link.specs.declared.entry.Named.TheVariants.{Nothing}
+use Rattle.par_references.specs.declared.entry.Declared.{Declared}
+use Rattle.par_references.specs.declared.entry.Named.{Named}
+use Rattle.par_references.specs.declared.entry.Named.TheVariants.{Nothing}
 use Rattle.par_link.specs.Channels.{AreSpread}
-use Rattle.par_link.specs.Conditions.{IsSmall}
-use Rattle.par_link.specs.Named.{named_by, names_of}
+use Rattle.par_references.specs.Conditions.{IsSmall}
+use Rattle.par_references.specs.Named.{named_by, names_of}
 use Rattle.par_link.specs.Order.{first_broken}
 
 -- what an index of the constant pool of one of the files names

@@ -1,20 +1,18 @@
 -- The rules that linked class files keep, and where each is broken first.
-use Rattle.std.specs.Prelude.{ℕ, suc, Bool, true, false, not, ◌&&◌, nat_lt, min, List, length}
-use Rattle.std.specs.Prelude.{Option, Some, None}
+use Rattle.std.specs.Prelude.{ℕ, suc, Bool, true, false, not, ◌&&◌, nat_lt, List, length, Option}
 use Rattle.std.specs.Option.{option_map}
 use Rattle.std.specs.List.{position}
-use Rattle.std.specs.Str.{bytes_eq}
 use Rattle.par_single.specs.par_pool.declared.constant.Constant.{Constant}
 use Rattle.par_single.specs.par_pool.declared.constant.Constant.TheVariants as constant
 use Rattle.par_single.specs.par_class.declared.file.ClassFile.{ClassFile}
-use Rattle.par_single.specs.Members.{own_name, own_names}
-use Rattle.par_single.specs.Described.{is_taken, is_field_right, is_method_right}
-use Rattle.par_link.specs.declared.entry.Named.{Named}
-use Rattle.par_link.specs.declared.entry.Named.TheVariants.{Nothing}
+use Rattle.par_single.specs.Described.{is_field_right, is_method_right}
+use Rattle.par_references.specs.declared.entry.Named.{Named}
+use Rattle.par_references.specs.declared.entry.Named.TheVariants.{Nothing}
 use Rattle.par_link.specs.declared.sort.Sort.{Sort}
 use Rattle.par_link.specs.declared.sort.Sort.TheVariants as sort
-use Rattle.par_link.specs.Firsts.{first_repeated}
-use Rattle.par_link.specs.Named.{is_same, fields_of, methods_of, named_by}
+use Rattle.par_references.specs.Firsts.{first_repeated}
+use Rattle.par_references.specs.Named.{is_same, fields_of, methods_of, named_by}
+pub use Rattle.par_references.specs.Twice.{earlier, repeated_class}
 use Rattle.par_link.specs.Stops.{is_unlisted, is_cut, first_stop}
 
 -- ---- the list
@@ -23,16 +21,7 @@ use Rattle.par_link.specs.Stops.{is_unlisted, is_cut, first_stop}
 abbrev pub are_too_many : List ClassFile → Bool
 are_too_many files = nat_lt 128 (length files)
 
-abbrev pub earlier : Option ℕ → Option ℕ → Option ℕ
-earlier None place = place
-earlier (Some place) None = Some place
-earlier (Some place) (Some other) = Some (min place other)
-
--- 43: no class has a name that is taken, or that of an earlier file
-abbrev pub repeated_class : List ClassFile → Option ℕ
-repeated_class files =
-    earlier (position (λ file. is_taken (own_name file)) files)
-    (first_repeated bytes_eq (own_names files))
+-- 43: no class has a name that is taken, or that of an earlier file: `repeated_class`
 
 -- ---- a file
 

@@ -8,12 +8,12 @@ ghost use Rattle.par_single.specs.par_class.declared.file.MethodFile.{MethodFile
 ghost use Rattle.par_single.specs.Members.{text_at, own_name};
 ghost use Rattle.par_link.specs.Channels.{is_channel_in, is_channel, hash_of, bucket_at, bucket_of};
 ghost use Rattle.par_link.specs.Channels.{Keeps, AreIn, AreSpread};
-ghost use Rattle.par_link.specs.Conditions.{IsSmall};
+ghost use Rattle.par_references.specs.Conditions.{IsSmall};
 ghost use Rattle.par_link.specs.Inputs.{is_input, is_input_of, has_input};
 
-use crate::entry::Declared;
 use par_index::par_base::list::List;
 use par_index::par_base::memory::NoMemory;
+use par_references::Declared;
 use par_single::member::{is_static, own_name, text_at};
 use par_single::par_class::file::{ClassFile, MethodFile};
 use par_single::par_class::is_native;

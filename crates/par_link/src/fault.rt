@@ -1,17 +1,15 @@
 //! The rules of one file.
 
 ghost use Rattle.std.specs.Prelude.{◌≡◌};
-ghost use Rattle.par_link.specs.Named.{names_of};
+ghost use Rattle.par_references.specs.Named.{names_of};
 ghost use Rattle.par_link.specs.Rules.{absent, wrong_field, wrong_method, is_nothing};
 ghost use Rattle.par_link.specs.Order.{at, member_fault, description_fault, constant_fault};
 ghost use Rattle.par_link.specs.Order.{code_fault, file_fault};
 
-use crate::entry::Named;
-use crate::members::Members;
 use crate::rules::{CUT, ILL_DESCRIBED, NO_CLASS, NO_FIELD, NO_METHOD, TWICE, UNLISTED};
 use crate::sort::Sort;
-use crate::tables::Tables;
 use crate::walk::{first_cut, first_unlisted};
+use par_references::{Members, Named, Tables};
 use par_single::described::is_field_right;
 use par_single::par_class::file::ClassFile;
 

@@ -11,27 +11,19 @@
 //! run.
 #![tactic(auto)]
 
-mod builtin;
 mod channels;
-mod classes;
-pub mod entry;
 pub mod error;
 mod fault;
 mod fit;
-mod keys;
 pub mod linked;
 mod linker;
-mod members;
-mod places;
 mod rules;
 mod sort;
-mod tables;
-mod texts;
 mod walk;
 
-pub use entry::{Builtin, Declared, Named};
 pub use error::LinkError;
 pub use fit::inputs_fit;
 pub use linked::Linked;
 pub use linker::link;
+pub use par_references::{Builtin, Declared, Named};
 pub use par_single::par_pool;

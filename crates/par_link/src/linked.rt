@@ -4,8 +4,8 @@ ghost use Rattle.par_link.specs.Inputs.{has_input};
 ghost use Rattle.par_link.specs.Linked.{AreLinked, name_at, named_at};
 
 use crate::channels::Channels;
-use crate::entry::Named;
 use par_index::par_base::list::List;
+use par_references::Named;
 use par_single::par_class::file::ClassFile;
 use std::marker::Model;
 

@@ -6,21 +6,19 @@ ghost use Rattle.std.specs.List.{All};
 ghost use Rattle.par_index.specs.par_base.Names.{IsName};
 ghost use Rattle.par_single.specs.par_class.Spelling.{Spells};
 ghost use Rattle.par_single.specs.Members.{own_name};
-ghost use Rattle.par_link.specs.Conditions.{IsSmall};
-ghost use Rattle.par_link.specs.Named.{names_of};
+ghost use Rattle.par_references.specs.Conditions.{IsSmall};
+ghost use Rattle.par_references.specs.Named.{names_of};
 ghost use Rattle.par_link.specs.Order.{in_class, file_fault, first_in, first_broken};
 ghost use Rattle.par_link.specs.Told.{Tells};
 
 use crate::channels::Channels;
-use crate::entry::Named;
 use crate::error::LinkError;
 use crate::fault::file_fault;
 use crate::linked::Linked;
-use crate::members::Members;
 use crate::rules::{TOO_MANY, TWICE};
-use crate::tables::Tables;
 use par_index::par_base::list::List;
 use par_index::par_base::memory::NoMemory;
+use par_references::{Members, Named, Tables};
 use par_single::par_class::file::ClassFile;
 use std::alloc::Global;
 

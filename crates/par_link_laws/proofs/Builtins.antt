@@ -5,11 +5,11 @@ use Rattle.std.proofs.Common.{◌∙◌}
 use Rattle.std.specs.Str.{bytes_eq}
 use Rattle.par_base.specs.Names.{is_name}
 use Rattle.par_descriptor_laws.specs.par_single.Descriptors.{Text}
-use Rattle.par_loader.specs.par_link.declared.entry.Builtin.{Builtin}
-use Rattle.par_loader.specs.par_link.declared.entry.Builtin.TheVariants.{Object, Exception}
-use Rattle.par_loader.specs.par_link.declared.entry.Builtin.TheVariants.{ArithmeticException}
-use Rattle.par_loader.specs.par_link.declared.entry.Builtin.TheVariants.{NullPointerException}
-use Rattle.par_loader.specs.par_link.declared.entry.Builtin.TheVariants.{Locks}
+use Rattle.par_loader.specs.par_link.entry.Builtin.{Builtin}
+use Rattle.par_loader.specs.par_link.entry.Builtin.TheVariants.{Object, Exception}
+use Rattle.par_loader.specs.par_link.entry.Builtin.TheVariants.{ArithmeticException}
+use Rattle.par_loader.specs.par_link.entry.Builtin.TheVariants.{NullPointerException}
+use Rattle.par_loader.specs.par_link.entry.Builtin.TheVariants.{Locks}
 use Rattle.par_loader.specs.par_link.Builtins.{builtin}
 use Rattle.par_loader.proofs.par_link.Passing.{same_text}
 

@@ -33,12 +33,12 @@ use Rattle.par_descriptor_laws.specs.par_code_form.Named.{class_word, descriptor
 use Rattle.par_descriptor_laws.specs.par_code_form.Named.{words_of}
 use Rattle.par_descriptor_laws.specs.par_code_form.Opcodes.{INVOKEVIRTUAL}
 use Rattle.par_compile_laws.specs.par_place_laws.Named.{full_name, LOCKS, LOCK_TYPE, lock_field}
-use Rattle.par_loader.specs.par_link.declared.entry.Builtin.{Builtin}
-use Rattle.par_loader.specs.par_link.declared.entry.Builtin.TheVariants.{Object, Exception}
-use Rattle.par_loader.specs.par_link.declared.entry.Builtin.TheVariants.{ArithmeticException}
-use Rattle.par_loader.specs.par_link.declared.entry.Builtin.TheVariants.{NullPointerException}
-use Rattle.par_loader.specs.par_link.declared.entry.Builtin.TheVariants.{Locks}
-use Rattle.par_loader.specs.par_link.declared.entry.Named.{Named}
+use Rattle.par_loader.specs.par_link.entry.Builtin.{Builtin}
+use Rattle.par_loader.specs.par_link.entry.Builtin.TheVariants.{Object, Exception}
+use Rattle.par_loader.specs.par_link.entry.Builtin.TheVariants.{ArithmeticException}
+use Rattle.par_loader.specs.par_link.entry.Builtin.TheVariants.{NullPointerException}
+use Rattle.par_loader.specs.par_link.entry.Builtin.TheVariants.{Locks}
+use Rattle.par_loader.specs.par_link.entry.Named.{Named}
 use Rattle.par_loader.specs.par_link.Builtins.{builtin, builtin_field, builtin_method}
 use Rattle.par_loader.specs.par_link.Named.{is_same, fields_of, methods_of}
 use Rattle.par_loader.specs.par_link.Rules.{is_nothing}

@@ -3,7 +3,7 @@ use Rattle.std.proofs.Common.{◌≡◌, ℕ, zero, suc, ◌<◌, Bool, true, fa
 use Rattle.std.proofs.Common.{None, refl, ap, ◌∙◌, arith}
 use Rattle.std.proofs.lemmas.Bool.{and_parts, ltb-true, ltb-false}
 use Rattle.std.specs.Fmt.{digits}
-use Rattle.par_loader.specs.par_link.declared.entry.Builtin.TheVariants.{Locks}
+use Rattle.par_loader.specs.par_link.entry.Builtin.TheVariants.{Locks}
 use Rattle.par_loader.specs.par_link.Builtins.{lock_number, builtin_field, lock_or_nothing}
 use Rattle.par_loader.specs.par_link.Rules.{is_nothing}
 use Rattle.par_compile_laws.specs.par_place_laws.Named.{LOCKS, LOCK_TYPE, lock_field}

@@ -19,10 +19,10 @@ use Rattle.par_descriptor_laws.specs.par_single.Members.{member_at}
 use Rattle.par_descriptor_laws.specs.par_single.Members.{class_name_of}
 use Rattle.par_descriptor_laws.specs.par_single.Members.{class_name_at, member_of}
 use Rattle.par_descriptor_laws.proofs.par_single.Found.{found_at}
-use Rattle.par_loader.specs.par_link.declared.entry.Builtin.{Builtin}
-use Rattle.par_loader.specs.par_link.declared.entry.Declared.{Declared}
-use Rattle.par_loader.specs.par_link.declared.entry.Named.{Named}
-use Rattle.par_loader.specs.par_link.declared.entry.Named.TheVariants as named
+use Rattle.par_loader.specs.par_link.entry.Builtin.{Builtin}
+use Rattle.par_loader.specs.par_link.entry.Declared.{Declared}
+use Rattle.par_loader.specs.par_link.entry.Named.{Named}
+use Rattle.par_loader.specs.par_link.entry.Named.TheVariants as named
 use Rattle.par_loader.specs.par_link.Builtins.{builtin, builtin_field, builtin_method}
 use Rattle.par_loader.specs.par_link.Named.{is_same, fields_of, methods_of, class_place, class_of}
 use Rattle.par_loader.specs.par_link.Named.{class_named}

@@ -11,8 +11,8 @@ use Rattle.par_class.specs.declared.file.ClassFile.{ClassFile}
 use Rattle.par_descriptor_laws.specs.par_single.Members.{Member, text_at, own_name, own_names}
 use Rattle.par_descriptor_laws.specs.par_single.Members.{member_at}
 use Rattle.par_descriptor_laws.specs.par_single.Described.{is_taken}
-use Rattle.par_loader.specs.par_link.declared.entry.Builtin.{Builtin}
-use Rattle.par_loader.specs.par_link.declared.entry.Named.{Named}
+use Rattle.par_loader.specs.par_link.entry.Builtin.{Builtin}
+use Rattle.par_loader.specs.par_link.entry.Named.{Named}
 use Rattle.par_loader.specs.par_link.Builtins.{builtin, builtin_field, builtin_method}
 use Rattle.par_loader.specs.par_link.Named.{is_same, fields_of, methods_of}
 use Rattle.par_loader.specs.par_link.Rules.{is_nothing, repeated_field, repeated_method}

@@ -9,10 +9,10 @@ use Rattle.par_pool.specs.declared.constant.Constant.TheVariants as constant
 use Rattle.par_pool.specs.Entries.{entry_at}
 use Rattle.par_class.specs.declared.file.ClassFile.{ClassFile}
 use Rattle.par_values.specs.Areas.{Name, class_named, name_or_none}
-use Rattle.par_sound_laws.specs.par_link.declared.entry.Builtin.{Builtin}
-use Rattle.par_sound_laws.specs.par_link.declared.entry.Builtin.TheVariants as builtin
-use Rattle.par_sound_laws.specs.par_link.declared.entry.Named.{Named}
-use Rattle.par_sound_laws.specs.par_link.declared.entry.Named.TheVariants as named
+use Rattle.par_sound_laws.specs.par_link.entry.Builtin.{Builtin}
+use Rattle.par_sound_laws.specs.par_link.entry.Builtin.TheVariants as builtin
+use Rattle.par_sound_laws.specs.par_link.entry.Named.{Named}
+use Rattle.par_sound_laws.specs.par_link.entry.Named.TheVariants as named
 use Rattle.par_sound_laws.specs.par_link.Builtins as builtins
 use Rattle.par_sound_laws.specs.par_link.Linked.{AreLinked, named_in}
 use Rattle.par_sound_laws.specs.par_link.Named.{named_by, class_of, class_place, field_of}

@@ -20,10 +20,10 @@ use Rattle.par_values.specs.declared.kind.Kind.TheVariants.{Number, Object}
 use Rattle.par_values.specs.declared.link.Link.{Link}
 use Rattle.par_values.specs.declared.link.MethodLink.{MethodLink}
 use Rattle.par_values.specs.Areas.{Name, class_named, name_or_none}
-use Rattle.par_sound_laws.specs.par_link.declared.entry.Builtin.{Builtin}
-use Rattle.par_sound_laws.specs.par_link.declared.entry.Builtin.TheVariants as builtin
-use Rattle.par_sound_laws.specs.par_link.declared.entry.Named.{Named}
-use Rattle.par_sound_laws.specs.par_link.declared.entry.Named.TheVariants as named
+use Rattle.par_sound_laws.specs.par_link.entry.Builtin.{Builtin}
+use Rattle.par_sound_laws.specs.par_link.entry.Builtin.TheVariants as builtin
+use Rattle.par_sound_laws.specs.par_link.entry.Named.{Named}
+use Rattle.par_sound_laws.specs.par_link.entry.Named.TheVariants as named
 use Rattle.par_sound_laws.specs.par_link.Linked.{AreLinked, named_at, named_in}
 use Rattle.par_single.specs.Members.{text_at, own_name, own_names, is_static, Member}
 use Rattle.par_single.specs.Members.{is_initializer}

@@ -10,8 +10,8 @@ use Rattle.par_values.specs.declared.link.Link.TheVariants as link
 use Rattle.par_values.specs.Operations.{GetStatic, PutStatic, GetField, PutField, InvokeStatic}
 use Rattle.par_values.specs.Operations.{InvokeSpecial, InvokeVirtual, Misnamed, of_field, of_method}
 use Rattle.par_values.specs.Operations.{of_class, constant}
-use Rattle.par_sound_laws.specs.par_link.declared.entry.Named.{Named}
-use Rattle.par_sound_laws.specs.par_link.declared.entry.Named.TheVariants as named
+use Rattle.par_sound_laws.specs.par_link.entry.Named.{Named}
+use Rattle.par_sound_laws.specs.par_link.entry.Named.TheVariants as named
 use Rattle.par_sound_laws.specs.par_link.Linked.{named_at}
 use Rattle.par_sound_laws.specs.par_step_laws.Links.{link_at}
 use Rattle.par_sound_laws.specs.par_kinds.Linked.{acted, act_at, result_of}

@@ -17,9 +17,9 @@ use Rattle.par_class.specs.Spelling.{is_native}
 use Rattle.par_values.specs.declared.kind.Kind.TheVariants.{Object}
 use Rattle.par_values.specs.Areas.{Name}
 use Rattle.par_sound_laws.proofs.par_link.Passing.{same_text}
-use Rattle.par_sound_laws.specs.par_link.declared.entry.Builtin.{Builtin}
-use Rattle.par_sound_laws.specs.par_link.declared.entry.Builtin.TheVariants as builtin
-use Rattle.par_sound_laws.specs.par_link.declared.entry.Named.TheVariants as named
+use Rattle.par_sound_laws.specs.par_link.entry.Builtin.{Builtin}
+use Rattle.par_sound_laws.specs.par_link.entry.Builtin.TheVariants as builtin
+use Rattle.par_sound_laws.specs.par_link.entry.Named.TheVariants as named
 use Rattle.par_sound_laws.specs.par_link.Builtins as builtins
 use Rattle.par_sound_laws.specs.par_link.Linked.{AreLinked, named_in}
 use Rattle.par_sound_laws.specs.par_link.Named.{named_by, class_of, class_named, class_place}

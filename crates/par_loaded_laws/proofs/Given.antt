@@ -24,7 +24,7 @@ use Rattle.par_pool.specs.declared.constant.Constant.TheVariants as constant
 use Rattle.par_pool.specs.Entries.{IsClassAt}
 use Rattle.par_single.specs.Members.{own_names}
 use Rattle.par_values.specs.Areas.{Name}
-use Rattle.par_link_laws.specs.par_link.declared.entry.Builtin.{Builtin}
+use Rattle.par_link_laws.specs.par_link.entry.Builtin.{Builtin}
 use Rattle.par_link_laws.specs.par_link.Builtins.{builtin}
 use Rattle.par_link_laws.specs.par_link.Named.{class_named, class_of, listed, class_place}
 use Rattle.par_link_laws.specs.par_link.Rules.{is_nothing}

@@ -14,7 +14,7 @@ use Rattle.par_single.specs.Members.{own_name, own_names}
 use Rattle.par_single.specs.Described.{is_taken}
 use Rattle.par_link.specs.Order.{Broken, in_class, file_fault, first_in, list_fault, first_broken}
 use Rattle.par_link.specs.Rules.{are_too_many, repeated_class}
-use Rattle.par_link.proofs.Indices.{IsBelow, first-below, place-below, earlier-below}
+use Rattle.par_link.proofs.Below.{IsBelow, first-below, place-below, earlier-below}
 use Rattle.par_loader.specs.declared.error.Unloaded.{Unloaded}
 use Rattle.par_loader.specs.declared.error.Unloaded.TheVariants.{Absent, TooLong, Failed, BadClass}
 use Rattle.par_loader.specs.declared.error.Unloaded.TheVariants.{Memory}

@@ -26,9 +26,9 @@ use Rattle.par_values.specs.Effects.{Calls, effect, called, called_on}
 use Rattle.par_values.specs.Operations.{Operation, InvokeStatic, InvokeSpecial, InvokeVirtual}
 use Rattle.par_values.specs.Operations.{Misnamed, of_method, takes}
 use Rattle.par_values.specs.Reasons.{is_of}
-use Rattle.par_method_area.specs.par_link.declared.entry.Builtin.TheVariants as builtin
-use Rattle.par_method_area.specs.par_link.declared.entry.Named.{Named}
-use Rattle.par_method_area.specs.par_link.declared.entry.Named.TheVariants as named
+use Rattle.par_method_area.specs.par_link.entry.Builtin.TheVariants as builtin
+use Rattle.par_method_area.specs.par_link.entry.Named.{Named}
+use Rattle.par_method_area.specs.par_link.entry.Named.TheVariants as named
 use Rattle.par_method_area.specs.par_link.Linked.{named_at}
 use Rattle.par_method_area.specs.par_step_laws.Classes.{exceptions}
 use Rattle.par_method_area.specs.par_step_laws.Links.{link_of, link_at, number_or, class_link}

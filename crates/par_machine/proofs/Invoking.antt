@@ -14,7 +14,7 @@ use Rattle.par_values.specs.Areas.{Areas, InputLists, operand, first_locals}
 use Rattle.par_values.specs.Effects.{Effect, Calls, effect}
 use Rattle.par_values.specs.Operations.{Operation, Misnamed, takes, gives}
 use Rattle.par_values.specs.Reasons.{reason, exceeds}
-use Rattle.par_method_area.specs.par_link.declared.entry.Named.{Named}
+use Rattle.par_method_area.specs.par_link.entry.Named.{Named}
 use Rattle.par_method_area.specs.par_link.Linked.{named_at}
 use Rattle.par_method_area.specs.par_step_laws.Classes.{class_names, exceptions}
 use Rattle.par_method_area.specs.par_step_laws.Links.{link_at}

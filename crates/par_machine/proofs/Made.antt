@@ -26,10 +26,10 @@ use Rattle.par_values.specs.Operations.{Operation, Create}
 use Rattle.par_values.specs.Effects.{Goes, Happens, effect}
 use Rattle.par_values.specs.Reasons.{Spot, reason}
 use Rattle.par_heap.specs.Heap as heap
-use Rattle.par_method_area.specs.par_link.declared.entry.Builtin.{Builtin}
-use Rattle.par_method_area.specs.par_link.declared.entry.Builtin.TheVariants as builtin
-use Rattle.par_method_area.specs.par_link.declared.entry.Named.{Named}
-use Rattle.par_method_area.specs.par_link.declared.entry.Named.TheVariants as named
+use Rattle.par_method_area.specs.par_link.entry.Builtin.{Builtin}
+use Rattle.par_method_area.specs.par_link.entry.Builtin.TheVariants as builtin
+use Rattle.par_method_area.specs.par_link.entry.Named.{Named}
+use Rattle.par_method_area.specs.par_link.entry.Named.TheVariants as named
 use Rattle.par_method_area.specs.par_link.Linked.{named_at}
 use Rattle.par_method_area.specs.par_step_laws.Classes.{class_names}
 use Rattle.par_method_area.specs.par_step_laws.Links.{class_link, field_link, field_in, method_link}

@@ -12,8 +12,8 @@ use Rattle.par_values.specs.declared.kind.Kind.{Kind}
 use Rattle.par_values.specs.declared.kind.Kind.TheVariants as kind
 use Rattle.par_values.specs.Areas.{Name}
 use Rattle.par_values.specs.Reasons.{Spot}
-use Rattle.par_step_laws.specs.par_link.declared.entry.Declared.{Declared}
-use Rattle.par_step_laws.specs.par_link.declared.entry.Named.TheVariants as named
+use Rattle.par_step_laws.specs.par_link.entry.Declared.{Declared}
+use Rattle.par_step_laws.specs.par_link.entry.Named.TheVariants as named
 use Rattle.par_single.specs.Members.{own_name, text_at, is_static}
 use Rattle.std.proofs.lemmas.Bool.{and_parts, eqb-true}
 use Rattle.std.proofs.lemmas.Slice.Eq.{bytes_eq-Decides}
@@ -22,7 +22,7 @@ use Rattle.par_single.specs.Descriptors.{kind_at, kinds_in}
 use Rattle.par_single.specs.Described.{is_channel_right, is_of_channel}
 use Rattle.par_single.specs.Links.{kind_or_any, signature_said, locals_of}
 use Rattle.par_step_laws.specs.Classes.{class_names}
-use Rattle.par_step_laws.specs.par_link.declared.entry.Named.{Named}
+use Rattle.par_step_laws.specs.par_link.entry.Named.{Named}
 use Rattle.par_step_laws.specs.Links.{channel_of, method_in, method_link, initializer_link}
 use Rattle.par_step_laws.specs.Links as steps
 use Rattle.par_step_laws.specs.Methods.{pool_of, methods_of, method_code, method_descriptor}

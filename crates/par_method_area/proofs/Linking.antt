@@ -7,8 +7,8 @@ use Rattle.par_pool.specs.Entries.{entry_at}
 use Rattle.par_class.specs.declared.file.ClassFile.{ClassFile}
 use Rattle.par_values.specs.declared.link.Link.{Link}
 use Rattle.par_values.specs.Areas.{Name}
-use Rattle.par_step_laws.specs.par_link.declared.entry.Named.{Named}
-use Rattle.par_step_laws.specs.par_link.declared.entry.Named.TheVariants.{Nothing}
+use Rattle.par_step_laws.specs.par_link.entry.Named.{Named}
+use Rattle.par_step_laws.specs.par_link.entry.Named.TheVariants.{Nothing}
 use Rattle.par_step_laws.specs.par_link.Linked.{named_in, named_at}
 use Rattle.par_step_laws.specs.par_link.Named.{named_by}
 use Rattle.par_step_laws.specs.Methods.{pool_of, class_pool}

@@ -19,9 +19,9 @@ use Rattle.par_values.specs.Reasons.{Spot}
 use Rattle.par_single.specs.declared.descriptor.Signature.{Signature}
 use Rattle.par_single.specs.Links.{kind_or_any, signature_said}
 use Rattle.par_single.specs.Walk.{starts_at}
-use Rattle.par_step_laws.specs.par_link.declared.entry.Builtin.TheVariants.{Exception}
-use Rattle.par_step_laws.specs.par_link.declared.entry.Named.{Named}
-use Rattle.par_step_laws.specs.par_link.declared.entry.Named.TheVariants as named
+use Rattle.par_step_laws.specs.par_link.entry.Builtin.TheVariants.{Exception}
+use Rattle.par_step_laws.specs.par_link.entry.Named.{Named}
+use Rattle.par_step_laws.specs.par_link.entry.Named.TheVariants as named
 use Rattle.par_step_laws.specs.Classes.{class_names}
 use Rattle.par_step_laws.specs.Methods.{method_file, method_code, method_descriptor}
 use Rattle.par_actions.specs.declared.births.Class.{Class}

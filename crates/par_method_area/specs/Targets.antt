@@ -2,7 +2,7 @@
 use Rattle.std.specs.Prelude.{ℕ, Bool, true, false, ◌==◌, if◌then◌else◌, List, length, Option}
 use Rattle.par_class.specs.declared.file.MethodFile.{MethodFile}
 use Rattle.par_class.specs.Spelling.{is_native}
-use Rattle.par_step_laws.specs.par_link.declared.entry.Declared.{Declared}
+use Rattle.par_step_laws.specs.par_link.entry.Declared.{Declared}
 use Rattle.par_step_laws.specs.Methods.{code_or_none}
 use Rattle.par_actions.specs.declared.fit.Fit.{Fit}
 use Rattle.par_actions.specs.declared.departures.Gives.{Gives}

@@ -14,10 +14,10 @@ use Rattle.par_class.specs.declared.file.ClassFile.{ClassFile}
 use Rattle.par_values.specs.declared.link.ClassLink.{ClassLink}
 use Rattle.par_values.specs.declared.link.Link.TheVariants as link
 use Rattle.par_values.specs.Areas.{Name}
-use Rattle.par_relocation_laws.specs.par_link.declared.entry.Builtin.{Builtin}
-use Rattle.par_relocation_laws.specs.par_link.declared.entry.Builtin.TheVariants as builtin
-use Rattle.par_relocation_laws.specs.par_link.declared.entry.Named.{Named}
-use Rattle.par_relocation_laws.specs.par_link.declared.entry.Named.TheVariants as named
+use Rattle.par_relocation_laws.specs.par_link.entry.Builtin.{Builtin}
+use Rattle.par_relocation_laws.specs.par_link.entry.Builtin.TheVariants as builtin
+use Rattle.par_relocation_laws.specs.par_link.entry.Named.{Named}
+use Rattle.par_relocation_laws.specs.par_link.entry.Named.TheVariants as named
 use Rattle.par_relocation_laws.specs.par_link.Builtins as builtins
 use Rattle.par_relocation_laws.specs.par_link.Named.{class_of, class_place, class_named}
 use Rattle.par_relocation_laws.specs.par_link.Linked.{named_at}

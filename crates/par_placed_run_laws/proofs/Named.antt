@@ -12,8 +12,8 @@ use Rattle.par_values.specs.Areas.{Name}
 use Rattle.par_relocation_laws.specs.par_single.Members.{Member, text_of, text_at, class_name_of}
 use Rattle.par_relocation_laws.specs.par_single.Members.{class_name_at}
 use Rattle.par_relocation_laws.specs.par_single.Members.{member_of, member_at}
-use Rattle.par_relocation_laws.specs.par_link.declared.entry.Named.TheVariants as named
-use Rattle.par_relocation_laws.specs.par_link.declared.entry.Named.TheVariants.{Nothing}
+use Rattle.par_relocation_laws.specs.par_link.entry.Named.TheVariants as named
+use Rattle.par_relocation_laws.specs.par_link.entry.Named.TheVariants.{Nothing}
 use Rattle.par_relocation_laws.specs.par_link.Builtins.{lock_or_nothing, builtin_field}
 use Rattle.par_relocation_laws.specs.par_link.Named.{class_named, field_of, field_declared}
 use Rattle.par_relocation_laws.specs.par_link.Named.{method_declared, named_by}

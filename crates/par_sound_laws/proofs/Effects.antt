@@ -32,7 +32,7 @@ use Rattle.par_values.specs.Reasons.{is_of, is_result}
 use Rattle.par_values.specs.declared.run.Event.{Event}
 use Rattle.par_kinds.proofs.par_link.Passing.{same_text}
 use Rattle.std.proofs.lemmas.Slice.Eq.{bytes_eq-Decides}
-use Rattle.par_kinds.specs.par_link.declared.entry.Named.{Named}
+use Rattle.par_kinds.specs.par_link.entry.Named.{Named}
 use Rattle.par_single.specs.Links.{kind_or_any}
 use Rattle.par_kinds.specs.par_step_laws.Classes.{class_names, exceptions}
 use Rattle.par_kinds.specs.par_step_laws.Methods.{method_code}

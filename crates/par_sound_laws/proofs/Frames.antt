@@ -14,10 +14,10 @@ use Rattle.par_values.specs.declared.kind.Kind.{Kind}
 use Rattle.par_values.specs.Areas.{Objects, class_named, name_or_none}
 use Rattle.par_values.specs.Reasons.{is_of}
 use Rattle.par_single.specs.Members.{own_names, own_name}
-use Rattle.par_kinds.specs.par_link.declared.entry.Builtin.{Builtin}
-use Rattle.par_kinds.specs.par_link.declared.entry.Builtin.TheVariants as builtin
-use Rattle.par_kinds.specs.par_link.declared.entry.Named.{Named}
-use Rattle.par_kinds.specs.par_link.declared.entry.Named.TheVariants as named
+use Rattle.par_kinds.specs.par_link.entry.Builtin.{Builtin}
+use Rattle.par_kinds.specs.par_link.entry.Builtin.TheVariants as builtin
+use Rattle.par_kinds.specs.par_link.entry.Named.{Named}
+use Rattle.par_kinds.specs.par_link.entry.Named.TheVariants as named
 use Rattle.par_kinds.specs.par_link.Linked.{named_at}
 use Rattle.par_kinds.specs.par_step_laws.Classes.{class_names, exceptions, arithmetic_exception}
 use Rattle.par_kinds.specs.par_step_laws.Classes.{null_pointer_exception}

@@ -33,9 +33,9 @@ use Rattle.par_values.specs.Reasons.{misused, throws, unfit_result, holds, is_cr
 use Rattle.std.specs.Str.{bytes_eq}
 use Rattle.par_values.specs.declared.run.Event.{Event}
 use Rattle.par_values.specs.declared.run.Event.TheVariants as event
-use Rattle.par_kinds.specs.par_link.declared.entry.Builtin.TheVariants as builtin
-use Rattle.par_kinds.specs.par_link.declared.entry.Named.{Named}
-use Rattle.par_kinds.specs.par_link.declared.entry.Named.TheVariants as named
+use Rattle.par_kinds.specs.par_link.entry.Builtin.TheVariants as builtin
+use Rattle.par_kinds.specs.par_link.entry.Named.{Named}
+use Rattle.par_kinds.specs.par_link.entry.Named.TheVariants as named
 use Rattle.par_kinds.specs.par_link.Linked.{named_at}
 use Rattle.par_single.specs.Links.{kind_or_any}
 use Rattle.par_single.specs.Walk.{stands_at}

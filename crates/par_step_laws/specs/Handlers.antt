@@ -4,10 +4,10 @@ use Rattle.std.specs.Prelude.{ℕ, Bool, true, false, not, ◌&&◌, ◌||◌, �
 use Rattle.std.specs.Prelude.{if◌then◌else◌, List, [], ◌∷◌, Option, Some, None}
 use Rattle.par_link.specs.par_class.declared.file.Catch.{Catch}
 use Rattle.par_link.specs.par_class.declared.file.ClassFile.{ClassFile}
-use Rattle.par_link.specs.declared.entry.Builtin.{Builtin}
-use Rattle.par_link.specs.declared.entry.Builtin.TheVariants as builtin
-use Rattle.par_link.specs.declared.entry.Named.{Named}
-use Rattle.par_link.specs.declared.entry.Named.TheVariants as named
+use Rattle.par_link.specs.entry.Builtin.{Builtin}
+use Rattle.par_link.specs.entry.Builtin.TheVariants as builtin
+use Rattle.par_link.specs.entry.Named.{Named}
+use Rattle.par_link.specs.entry.Named.TheVariants as named
 use Rattle.par_link.specs.Linked.{named_at}
 use Rattle.par_link.specs.par_single.Walk.{starts_at}
 use Rattle.par_step_laws.specs.Classes.{arithmetic_exception, null_pointer_exception}

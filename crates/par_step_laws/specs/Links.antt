@@ -19,10 +19,10 @@ use Rattle.par_secrecy.specs.par_values.Areas.{Name}
 use Rattle.par_link.specs.par_single.Members.{text_at, own_name, is_static, is_initializer}
 use Rattle.par_link.specs.par_single.Links.{signature_said, locals_of}
 use Rattle.par_link.specs.par_single.Described.{method_named}
-use Rattle.par_link.specs.declared.entry.Builtin.{Builtin}
-use Rattle.par_link.specs.declared.entry.Builtin.TheVariants as builtin
-use Rattle.par_link.specs.declared.entry.Named.{Named}
-use Rattle.par_link.specs.declared.entry.Named.TheVariants as named
+use Rattle.par_link.specs.entry.Builtin.{Builtin}
+use Rattle.par_link.specs.entry.Builtin.TheVariants as builtin
+use Rattle.par_link.specs.entry.Named.{Named}
+use Rattle.par_link.specs.entry.Named.TheVariants as named
 use Rattle.par_link.specs.Linked.{named_at}
 use Rattle.par_step_laws.specs.Classes.{arithmetic_exception, null_pointer_exception, is_exception}
 use Rattle.par_step_laws.specs.Methods.{class_pool}

@@ -21,9 +21,9 @@ use Rattle.par_secrecy.specs.par_values.Reasons.{Spot, reason, is_of}
 use Rattle.par_secrecy.specs.par_values.Effects.{Effect, Goes, Happens, Jumps, Calls, Throws}
 use Rattle.par_secrecy.specs.par_values.Effects.{ThrowsObject}
 use Rattle.par_secrecy.specs.par_values.Effects.{Returns, ReturnsWith, effect}
-use Rattle.par_link.specs.declared.entry.Builtin.TheVariants.{Exception}
-use Rattle.par_link.specs.declared.entry.Named.{Named}
-use Rattle.par_link.specs.declared.entry.Named.TheVariants.{Initializer}
+use Rattle.par_link.specs.entry.Builtin.TheVariants.{Exception}
+use Rattle.par_link.specs.entry.Named.{Named}
+use Rattle.par_link.specs.entry.Named.TheVariants.{Initializer}
 use Rattle.par_link.specs.Linked.{named_at}
 use Rattle.par_link.specs.par_single.Links.{kind_or_any, signature_said}
 use Rattle.par_link.specs.par_single.Walk.{stands_at}

@@ -3,8 +3,8 @@ use Rattle.std.proofs.Common.{◌∙◌, arith}
 use Rattle.std.specs.Option.{option_map}
 use Rattle.par_index.proofs.Places.{position-found}
 use Rattle.par_link.proofs.Made.{made-at}
-use Rattle.par_link.specs.declared.entry.Named.TheVariants.{Class}
-use Rattle.par_link.specs.Named.{named_by}
+use Rattle.par_references.specs.declared.entry.Named.TheVariants.{Class}
+use Rattle.par_references.specs.Named.{named_by}
 use Rattle.par_link.specs.Rules.{is_nothing, is_absent}
 use Rattle.par_link.proofs.fault.absent.Goals as goal
 

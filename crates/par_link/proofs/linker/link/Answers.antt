@@ -2,8 +2,8 @@ use Rattle.std.proofs.Common.{◌≡◌, map, sym, subst, arith, None}
 use Rattle.std.specs.List.{All}
 use Rattle.par_link.proofs.Smallness.{spelled-small}
 use Rattle.par_link.specs.Channels.{AreSpread}
-use Rattle.par_link.specs.Conditions.{IsSmall}
-use Rattle.par_link.specs.Named.{names_of}
+use Rattle.par_references.specs.Conditions.{IsSmall}
+use Rattle.par_references.specs.Named.{names_of}
 use Rattle.par_link.specs.Order.{first_broken}
 use Rattle.par_link.proofs.linker.link.Goals as goal
 

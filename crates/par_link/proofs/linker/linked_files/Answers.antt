@@ -7,8 +7,8 @@ use Rattle.std.proofs.lemmas.List.Elements.{All-get_or}
 use Rattle.std.proofs.lemmas.Result.{err_from_is_err_and}
 use Rattle.par_link.proofs.Made.{made-left, made-so-far}
 use Rattle.par_link.proofs.Ordering.{first-past, first-told, first-ended}
-use Rattle.par_link.specs.declared.members.Members.{Members}
-use Rattle.par_link.specs.Named.{names_of}
+use Rattle.par_references.specs.declared.members.Members.{Members}
+use Rattle.par_references.specs.Named.{names_of}
 use Rattle.par_link.specs.Order.{first_in}
 use Rattle.par_link.specs.Told.{Tells}
 use Rattle.par_link.proofs.linker.linked_files.Goals as goal

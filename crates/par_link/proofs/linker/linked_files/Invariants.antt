@@ -1,5 +1,5 @@
 use Rattle.std.proofs.Common.{◌≡◌, map, take, drop}
-use Rattle.par_link.specs.Named.{names_of}
+use Rattle.par_references.specs.Named.{names_of}
 use Rattle.par_link.specs.Order.{first_in}
 use Rattle.par_link.proofs.linker.linked_files.Given as goal
 

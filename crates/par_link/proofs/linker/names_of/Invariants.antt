@@ -1,5 +1,5 @@
 use Rattle.std.proofs.Common.{◌≡◌, map, take}
-use Rattle.par_link.specs.Named.{named_by}
+use Rattle.par_references.specs.Named.{named_by}
 use Rattle.par_link.proofs.linker.names_of.Given as goal
 
 abbrev pub invariant-loop-constant : goal.invariant-loop-constant

@@ -1,5 +1,5 @@
 use Rattle.std.proofs.Common.{◌+◌, Some, length, sym, subst, ap, ◌∙◌, codes, arith}
-use Rattle.par_step_laws.specs.par_link.declared.entry.Builtin.{Builtin}
+use Rattle.par_step_laws.specs.par_link.entry.Builtin.{Builtin}
 use Rattle.par_step_laws.specs.Classes.{class_names}
 use Rattle.par_step_laws.specs.Links.{builtin_class}
 use Rattle.par_method_area.specs.Area.{Area}

@@ -1,5 +1,5 @@
 use Rattle.std.proofs.Common.{◌≡◌, Some, subst, ap, ◌∙◌}
-use Rattle.par_step_laws.specs.par_link.declared.entry.Named.TheVariants as named
+use Rattle.par_step_laws.specs.par_link.entry.Named.TheVariants as named
 use Rattle.par_step_laws.specs.par_link.Linked.{named_at}
 use Rattle.par_values.specs.declared.link.Link.{Link}
 use Rattle.par_step_laws.specs.Classes.{class_names}

@@ -1,7 +1,7 @@
 use Rattle.std.proofs.Common.{◌+◌, Some, sym, subst, ap, refl, ◌∙◌, slice_get, codes}
-use Rattle.par_step_laws.specs.par_link.declared.entry.Named.TheVariants as named
-use Rattle.par_step_laws.specs.par_link.declared.entry.Builtin.{Builtin}
-use Rattle.par_step_laws.specs.par_link.declared.entry.Builtin.TheVariants as builtin
+use Rattle.par_step_laws.specs.par_link.entry.Named.TheVariants as named
+use Rattle.par_step_laws.specs.par_link.entry.Builtin.{Builtin}
+use Rattle.par_step_laws.specs.par_link.entry.Builtin.TheVariants as builtin
 use Rattle.par_values.specs.declared.kind.Kind.TheVariants.{Object, AnyObject}
 use Rattle.par_step_laws.specs.Classes.{class_names}
 use Rattle.par_step_laws.specs.Links.{builtin_initializer}

@@ -1,0 +1,6 @@
+pub mod Builtins
+pub mod Conditions
+pub mod Firsts
+pub mod Named
+pub mod Placed
+pub mod Twice
