@@ -36,6 +36,8 @@ pub numbered_first : (ds : List VKind) (ns : List ℕ) (n : ℕ)
     → numbered ds (take n ns) ≡ take n (numbered ds ns)
 numbered_first ds ns n = sym (take-map (λ (m : ℕ). kind_at ds m) n ns)
 
+pub ruleset firsts = (numbered_first, below_first)
+
 -- ---- different ones that begin with others
 
 begun-at : (ds es : List VKind) (n : ℕ) → take (length es) ds ≡ es → n < length es

@@ -206,7 +206,7 @@ impl<'f> FewKinds<'f> {
     }
 
     /// The first kinds, of so many, if there are as many.
-    #[tactic(auto, using(crate::proofs::Numbered::numbered_first, crate::proofs::Numbered::below_first))]
+    #[tactic(auto, using(crate::proofs::Numbered::firsts))]
     pub fn first(&self, alloc: Global, many: usize) -> Result<Option<FewKinds<'f>>, NoMemory>
         ensures { IfOk result (λ all. IfSome all (λ few. few ≡ take many self.now)) }
     {
