@@ -94,8 +94,38 @@ fn code_length<'b>(
     Ok((len, rest))
 }
 
+/// The bytes of code, and the limits that stand before them.
+#[derive(Clone, Copy)]
+struct Instructions<'b> {
+    max_stack: u16,
+    max_locals: u16,
+    code: &'b [u8],
+}
+
+/// The two limits, and the code itself.
+#[tactic(auto, unfolding(crate::specs::Reading::instructions_at))]
+fn instructions_of<'b>(
+    short: ClassError,
+    end: u32,
+    bytes: &'b [u8],
+) -> Result<(Instructions<'b>, &'b [u8]), ClassError>
+    ensures { Gives (λ x. ((x.0.max_stack, (x.0.max_locals, x.0.code.now)), x.1.now)) result
+        (reading.instructions_at short end bytes.now) }
+{
+    let (max_stack, rest) = u2(short, bytes)?;
+    let (max_locals, rest) = u2(short, rest)?;
+    let (len, rest) = code_length(short, end, rest)?;
+    let (code, rest) = taken(short, len as usize, rest)?;
+    let instructions = Instructions {
+        max_stack,
+        max_locals,
+        code,
+    };
+    Ok((instructions, rest))
+}
+
 /// Code, with its limits, handlers and attributes.
-#[tactic(auto, unfolding(crate::specs::Reading::instructions_at, crate::specs::Reading::handled_at, crate::specs::Reading::code_at))]
+#[tactic(auto, unfolding(crate::specs::Reading::handled_at, crate::specs::Reading::code_at))]
 fn code_of<'b>(
     alloc: Global,
     entries: &[Constant],
@@ -105,16 +135,13 @@ fn code_of<'b>(
 ) -> Result<(CodeAttr, &'b [u8]), ClassError>
     ensures { Gives (λ x. (x.0, x.1.now)) result (reading.code_at entries.now short end bytes.now) }
 {
-    let (max_stack, rest) = u2(short, bytes)?;
-    let (max_locals, rest) = u2(short, rest)?;
-    let (len, rest) = code_length(short, end, rest)?;
-    let (code, rest) = taken(short, len as usize, rest)?;
-    let (catches, rest) = catches_of(alloc, entries, short, end, code.len(), rest)?;
+    let (head, rest) = instructions_of(short, end, bytes)?;
+    let (catches, rest) = catches_of(alloc, entries, short, end, head.code.len(), rest)?;
     let (attributes, rest) = attributes_of(alloc, entries, short, end, rest)?;
-    let code = List::wrap(Vec::from_slice(alloc, code)?);
+    let code = List::wrap(Vec::from_slice(alloc, head.code)?);
     let attribute = CodeAttr {
-        max_stack,
-        max_locals,
+        max_stack: head.max_stack,
+        max_locals: head.max_locals,
         code,
         catches,
         attributes,
