@@ -54,7 +54,8 @@ impl<'a> Releases<'a> {
         requires policy { policy < length self.old.0 }
         ensures stands { self.new ≡ self.old }
         ensures released { result
-            ≡ is_released self.old.0 (has set.now) (slice_index_or self.old.0 policy []) self.old.1 }
+            ≡ is_released self.old.0 (has set.now) (slice_index_or self.old.0 policy [])
+            self.old.1 }
     {
         let policies = self.policies;
         let place = usize::from(policy);

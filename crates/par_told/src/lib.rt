@@ -1,5 +1,5 @@
-//! Which policies of those that stand for an inferred field are told: those that are below no other,
-//! so that nothing is said twice; and that what is told is still the least filling.
+//! Which policies of those that stand for an inferred field are told: those that are below no
+//! other, so that nothing is said twice; and that what is told is still the least filling.
 //!
 //! The crate knows no text, and infers nothing.
 #![tactic(auto)]
