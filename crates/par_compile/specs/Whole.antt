@@ -57,6 +57,16 @@ pub record IsOwnBytes (table : Table) (class : ClassInfo) (ms : List Member) (by
   pub is : IsShortFile frames table class ms bytes
   pub unframed : frames ≡ false → IsLongFile true table class ms
 
+-- the file is too long to be read again, with frames and without them
+pub record IsTooLong (table : Table) (class : ClassInfo) (ms : List Member) : Type 0 where
+  pub framed : IsLongFile true table class ms
+  pub unframed : IsLongFile false table class ms
+
+-- the bytes of the file of a class, or none where it is too long
+abbrev pub AreOwnBytes : Table → ClassInfo → List Member → Option (List ℕ) → Type 0
+AreOwnBytes table class ms None = IsTooLong table class ms
+AreOwnBytes table class ms (Some bytes) = IsOwnBytes table class ms bytes
+
 -- what comes behind what is made with frames: what is made without them where that is nothing
 abbrev pub Follows : {E : Type 0} → (Bool → Result (Option (List ℕ)) E → Type 0)
     → Result (Option (List ℕ)) E → Result (Option (List ℕ)) E → Type 0

@@ -5,7 +5,7 @@ ghost use Rattle.std.specs.List.{list_any};
 ghost use Rattle.par_erase.specs.Shown.{class_info, table_of};
 ghost use Rattle.par_compile.specs.Own.{AreNamed, IsReady, own_members};
 ghost use Rattle.par_compile.specs.Whole as whole;
-ghost use Rattle.par_compile.specs.Whole.{IsShortFile, IsLongFile, IsOwnBytes, IsFirstMade};
+ghost use Rattle.par_compile.specs.Whole.{IsShortFile, IsLongFile, AreOwnBytes, IsFirstMade};
 
 use crate::class::class_file;
 use par_base::list::List;
@@ -82,19 +82,17 @@ fn with_or_without<E: Drop, F: Fn(bool) -> Result<Option<List<u8>>, E>>(
     make(false)
 }
 
-/// The bytes of the file of a class: with frames where these are few enough to be read again.
-///
-/// A file that is too long even without frames is not handed out. That the limits of sources leave
-/// none so long is not proved.
-pub fn class_bytes(alloc: Global, plain: &Plain, class: &PlainClass) -> Result<List<u8>, NoMemory>
+/// The bytes of the file of a class: with frames where these are few enough to be read again. None
+/// where it is too long even without frames.
+pub fn class_bytes(
+    alloc: Global,
+    plain: &Plain,
+    class: &PlainClass,
+) -> Result<Option<List<u8>>, NoMemory>
     requires named { AreNamed plain.now }
     requires ready { IsReady plain.now class.now }
-    ensures { IfOk result (IsOwnBytes (table_of plain.now) (class_info class.now)
+    ensures { IfOk result (AreOwnBytes (table_of plain.now) (class_info class.now)
         (own_members plain.now class.now)) }
 {
-    let made = with_or_without(|frames| file_bytes(alloc, plain, class, frames))?;
-    match made {
-        None => Err(NoMemory),
-        Some(bytes) => Ok(bytes),
-    }
+    with_or_without(|frames| file_bytes(alloc, plain, class, frames))
 }

@@ -32,14 +32,17 @@ fn declared(plain: &Plain) -> &[PlainClass]
     }
 }
 
-/// The file of a class, under the name of the class.
+/// The file of a class, under the name of the class. Want of memory is told of one that is too long
+/// to be read again.
 fn compiled(alloc: Global, plain: &Plain, class: &PlainClass) -> Result<CompiledClass, NoMemory>
     requires named { AreNamed plain.now }
     requires ready { IsReady plain.now class.now }
     ensures { IfOk result (λ file. (c : ℕ) → slice_get plain.now.classes c ≡ Some class.now →
         IsCompiledClass (table_of plain.now) (bodies_of plain.now) c (class_info class.now) file) }
 {
-    let bytes = class_bytes(alloc, plain, class)?;
+    let Some(bytes) = class_bytes(alloc, plain, class)? else {
+        return Err(NoMemory);
+    };
     Ok(CompiledClass {
         name: class.name.copy(alloc)?,
         bytes,
