@@ -177,6 +177,17 @@ impl<'f> FewKinds<'f> {
         Ok(Some(FewKinds { different, numbers }))
     }
 
+    /// These kinds, where with those of a list before no more are different than are told.
+    fn beside(
+        alloc: Global,
+        before: &FewKinds<'f>,
+        kinds: &[PlaceKind<'f>],
+    ) -> Result<Option<FewKinds<'f>>, NoMemory>
+        ensures { IfOk result (λ all. IfSome all (λ few. few ≡ kinds_of kinds.entry.now)) }
+    {
+        FewKinds::behind(alloc, before.different.found().copied(alloc)?, kinds)
+    }
+
     /// These kinds, where not too many are different. A list that has the same different ones, or
     /// most of them, makes it quick.
     pub(crate) fn of(
@@ -192,7 +203,10 @@ impl<'f> FewKinds<'f> {
         if let Some(few) = FewKinds::shared(alloc, before, kinds)? {
             return Ok(Some(few));
         }
-        FewKinds::behind(alloc, before.different.found().copied(alloc)?, kinds)
+        if let Some(few) = FewKinds::beside(alloc, before, kinds)? {
+            return Ok(Some(few));
+        }
+        FewKinds::behind(alloc, Lookup::new(alloc), kinds)
     }
 
     /// The kinds once more.

@@ -8,10 +8,11 @@ use crate::kind::PlaceKind;
 use crate::kinds::copied;
 use par_base::memory::NoMemory;
 use std::alloc::Global;
+use std::hash::{FoldHasher, Hasher};
 use std::marker::Model;
 
-/// How many kinds there may be, and what a slot has in which none of them is.
-const EMPTY: u8 = 255;
+/// How many kinds there are at most, as many as a byte tells.
+const MOST_KINDS: usize = 256;
 
 /// How many slots there are, as many as a byte tells.
 const SLOTS: usize = 256;
@@ -19,40 +20,39 @@ const SLOTS: usize = 256;
 /// In how many slots, one behind another, a kind may be.
 const TRIES: u8 = 8;
 
-/// How much the first byte of a name weighs.
-const FIRST_WEIGHT: u16 = 12_289;
-
-/// How much more each other byte of a name weighs than the one before it.
-const MORE_WEIGHT: u16 = 27_734;
-
-/// A byte that depends on each byte of a name and on its place.
-fn mixed(name: &[u8]) -> u8 {
-    let mut sum: u16 = FIRST_WEIGHT;
-    let mut weight: u16 = FIRST_WEIGHT;
-    for byte in name {
-        sum = sum.wrapping_add(u16::from(*byte).wrapping_mul(weight));
-        weight = weight.wrapping_add(MORE_WEIGHT);
-    }
-    (sum / 256) as u8
+/// A number that hardly any two names share, unless they were chosen to.
+fn mark_of_name(name: &[u8]) -> u64 {
+    let mut hasher = FoldHasher::default();
+    hasher.write(name);
+    hasher.finish()
 }
 
-/// The slot in which a kind is looked for first. Others may have the same.
-fn first_slot(kind: PlaceKind) -> u8 {
+/// A number that hardly any two kinds share.
+fn mark_of(kind: PlaceKind) -> u64 {
     match kind {
         PlaceKind::Top => 0,
         PlaceKind::Int => 1,
         PlaceKind::Null => 2,
-        PlaceKind::Base(_) => 3,
-        PlaceKind::Object(name) => mixed(name),
+        PlaceKind::Base(false) => 3,
+        PlaceKind::Base(true) => 4,
+        PlaceKind::Object(name) => mark_of_name(name),
     }
 }
 
-/// Kinds, each of which is looked for in few slots. Contracts see the kinds.
+/// The slot in which a kind of this mark is looked for first.
+fn first_slot(mark: u64) -> u8 {
+    (mark % 256) as u8
+}
+
+/// Kinds, each of which is looked for in few slots, and where these are taken by others, by its
+/// mark. Contracts see the kinds.
 #[derive(Drop)]
 pub(crate) struct Lookup<'f> {
     kinds: Vec<PlaceKind<'f>>,
+    /// The marks of kinds.
+    marks: Vec<u64>,
     /// The places of kinds.
-    slots: [u8; SLOTS],
+    slots: [Option<u8>; SLOTS],
 }
 
 impl<'f> Model for Lookup<'f> {
@@ -72,7 +72,8 @@ impl<'f> Lookup<'f> {
     {
         Lookup {
             kinds: Vec::new(alloc),
-            slots: [EMPTY; SLOTS],
+            marks: Vec::new(alloc),
+            slots: [None; SLOTS],
         }
     }
 
@@ -87,8 +88,11 @@ impl<'f> Lookup<'f> {
     pub(crate) fn copied(&self, alloc: Global) -> Result<Lookup<'f>, NoMemory>
         ensures { IfOk result (λ found. found ≡ self.now) }
     {
+        let mut marks = Vec::new(alloc);
+        marks.extend_from_slice(&self.marks)?;
         Ok(Lookup {
             kinds: copied(alloc, &self.kinds)?,
+            marks,
             slots: self.slots,
         })
     }
@@ -104,33 +108,57 @@ impl<'f> Lookup<'f> {
         }
     }
 
-    /// The place of a kind, if it is seen in its slots.
-    fn in_slots(&self, kind: PlaceKind) -> Option<u8>
+    /// Whether the kind of a place has this mark.
+    fn has_mark(&self, number: u8, mark: u64) -> bool {
+        match self.marks.get(usize::from(number)) {
+            Some(own) => *own == mark,
+            None => false,
+        }
+    }
+
+    /// The place of a kind, if it is seen by its mark.
+    fn marked(&self, mark: u64, kind: PlaceKind) -> Option<u8>
         ensures { IfSome result (λ number. (number < length self.now)
             × (kind_of kind.entry ≡ kind_at self.now number)) }
     {
-        let first = first_slot(kind);
-        for step in 0..TRIES {
-            let number = self.slots[usize::from(first.wrapping_add(step))];
-            if self.is_at(number, kind) {
-                return Some(number);
+        for (place, own) in self.marks.iter().enumerate() {
+            if place < MOST_KINDS && *own == mark && self.is_at(place as u8, kind) {
+                return Some(place as u8);
             }
         }
         None
     }
 
-    /// The place of a kind, if it is seen where it is guessed or in its slots.
+    /// The place of a kind, if it is seen in its slots, or by its mark where these are taken.
+    fn found(&self, kind: PlaceKind) -> Option<u8>
+        ensures { IfSome result (λ number. (number < length self.now)
+            × (kind_of kind.entry ≡ kind_at self.now number)) }
+    {
+        let mark = mark_of(kind);
+        let first = first_slot(mark);
+        for step in 0..TRIES {
+            let Some(number) = self.slots[usize::from(first.wrapping_add(step))] else {
+                return None;
+            };
+            if self.has_mark(number, mark) && self.is_at(number, kind) {
+                return Some(number);
+            }
+        }
+        self.marked(mark, kind)
+    }
+
+    /// The place of a kind, if it is seen where it is guessed or is found.
     pub(crate) fn number_of(&self, kind: PlaceKind, guess: Option<u8>) -> Option<u8>
         ensures { IfSome result (λ number. (number < length self.now)
             × (kind_of kind.entry ≡ kind_at self.now number)) }
     {
         let Some(number) = guess else {
-            return self.in_slots(kind);
+            return self.found(kind);
         };
         if self.is_at(number, kind) {
             return Some(number);
         }
-        self.in_slots(kind)
+        self.found(kind)
     }
 
     /// Puts a kind behind them, or tells that there are too many.
@@ -139,26 +167,24 @@ impl<'f> Lookup<'f> {
             → self.new ≡ self.old ++ kind_of kind.entry ∷ []) }
     {
         let number = self.kinds.len();
-        if number >= usize::from(EMPTY) {
+        if number >= MOST_KINDS {
             return Ok(false);
         }
+        let mark = mark_of(kind);
+        self.marks.push(mark)?;
         self.kinds.push(kind)?;
-        self.note(number as u8);
+        self.note(number as u8, first_slot(mark));
         Ok(true)
     }
 
-    /// Puts the kind of a place into one of its slots, if one is empty.
-    fn note(&mut self, number: u8)
+    /// Puts the place of a kind into a slot, if one of them is empty.
+    fn note(&mut self, number: u8, first: u8)
         ensures { self.new ≡ self.old }
     {
-        let Some(kind) = self.kinds.get(usize::from(number)) else {
-            return;
-        };
-        let first = first_slot(*kind);
         for step in 0..TRIES {
             let slot = usize::from(first.wrapping_add(step));
-            if self.slots[slot] == EMPTY {
-                self.slots[slot] = number;
+            if self.slots[slot].is_none() {
+                self.slots[slot] = Some(number);
                 return;
             }
         }
