@@ -15,14 +15,14 @@ RUN = ["Long", "in.txt", "100000"]
 VERIFY = ["--verify", "Long"]
 
 
-def file_of(entries, methods):
-    """A class `Long` of these constants, whose first seven are its own, and of these methods."""
+def file_of(entries, methods, fields=()):
+    """A class `Long` of these constants, whose first seven are its own, and of these members."""
     pool = [long_class.utf8("Long"), b"\x07\0\x01", long_class.utf8("java/lang/Object")]
     pool += [b"\x07\0\x03", long_class.utf8("Code"), long_class.utf8("main")]
     pool += [long_class.utf8("()V"), *entries]
     file = b"\xca\xfe\xba\xbe" + struct.pack(">HHH", 0, 49, len(pool) + 1) + b"".join(pool)
-    file += struct.pack(">HHHHHH", 0x0031, 2, 4, 0, 0, len(methods))
-    return file + b"".join(methods) + b"\0\0"
+    file += struct.pack(">HHHHH", 0x0031, 2, 4, 0, len(fields)) + b"".join(fields)
+    return file + struct.pack(">H", len(methods)) + b"".join(methods) + b"\0\0"
 
 
 def main(code, room, places, handlers=b""):
@@ -46,15 +46,16 @@ def files_that_name_each_other(part):
     return made, ["C000", "in.txt", "1"]
 
 
-def of_code(code, room, places, many, entries=()):
+def of_code(code, room, places, many, entries=(), descriptor=7, fields=()):
     """A class with so many methods of that code, behind further constants."""
     names = [long_class.utf8(f"m{n:05}") for n in range(many)]
     body = struct.pack(">HHI", room, places, len(code)) + code + b"\0\0\0\0"
     first = 8 + len(entries)
     methods = [
-        struct.pack(">HHHHHI", 0x0009, first + n, 7, 1, 5, len(body)) + body for n in range(many)
+        struct.pack(">HHHHHI", 0x0009, first + n, descriptor, 1, 5, len(body)) + body
+        for n in range(many)
     ]
-    return {"Long": file_of([*entries, *names], [main(b"\xb1", 0, 0), *methods])}
+    return {"Long": file_of([*entries, *names], [main(b"\xb1", 0, 0), *methods], fields)}
 
 
 def long_code(part):
@@ -226,6 +227,124 @@ def pushed_on_many(part):
     return among_classes(names, code, 127 * 256 + 2, 127, int(15 * part))
 
 
+def absent(many):
+    """The descriptors of so many classes that are not there, of long names."""
+    return ["L" + f"A{n:04}".ljust(64, "x") + ";" for n in range(many)]
+
+
+def with_arguments(code, room, many_arguments, methods):
+    """A class with so many methods of that code, whose arguments are of classes that are not
+    there."""
+    text = "(" + "".join(absent(many_arguments)) + ")V"
+    entries = [long_class.utf8(text)]
+    return of_code(code, room, many_arguments, methods, entries, 8), VERIFY
+
+
+def with_fields(code, room, many, methods):
+    """A class with so many methods of that code, and with so many static fields, each of a class
+    that is not there. The constant of field n is 11 + 4 n."""
+    entries, fields = [], []
+    for n, text in enumerate(absent(many)):
+        at = 8 + 4 * n
+        entries += [long_class.utf8(f"f{n:04}"), long_class.utf8(text)]
+        entries.append(b"\x0c" + struct.pack(">HH", at, at + 1))
+        entries.append(b"\x09" + struct.pack(">HH", 2, at + 2))
+        fields.append(struct.pack(">HHHH", 0x0009, at, at + 1, 0))
+    return of_code(code, room, 0, methods, entries, 7, fields), VERIFY
+
+
+def reads(fields):
+    """Code that pushes these fields."""
+    return b"".join(struct.pack(">BH", 0xB2, 11 + 4 * n) for n in fields)
+
+
+def loads(many, first=0):
+    """Code that pushes so many locals, each of which is an object, from one on and round."""
+    places = [(n + first) % many for n in range(many)]
+    return b"".join(bytes([0x2A + n]) if n < 4 else bytes([0x19, n]) for n in places)
+
+
+def each_of_its_kind(part):
+    """Methods of branches, each to what is behind it, under operands of which each 256 have as many
+    kinds: classes that are not there, and int; as many as fit."""
+    code = (loads(255) + b"\x03") * 64 + b"\x03\x99\0\x03" * 8150 + b"\xb1"
+    return with_arguments(code, 64 * 256 + 2, 255, int(15 * part))
+
+
+def pushed_each_of_its_kind(part):
+    """Methods that push and take an operand by turns on 256 such others; as many as fit."""
+    code = loads(255) + b"\x03" + b"\x03\x57" * 32400 + b"\xb1"
+    return with_arguments(code, 258, 255, int(15 * part))
+
+
+def ways_each_of_its_kind(part):
+    """Two ways that push such operands, each in another order, and meet."""
+    pieces = max(1, int(31 * part))
+    one, other = loads(256) * pieces, loads(256, 128) * pieces
+    code = ways_to_goals(b"", one, other, int(3600 * part))
+    return with_arguments(code, pieces * 256 + 2, 256, 1)
+
+
+def windows(part):
+    """Methods of branches, each to what is behind it, under operands of which each 256 have as many
+    kinds, and each 256 eight others than those below; as many as fit."""
+    pieces = 42
+    code = b"".join(reads(range(8 * piece, 8 * piece + 256)) for piece in range(pieces))
+    code += b"\x03\x99\0\x03" * 8150 + b"\xb1"
+    return with_fields(code, pieces * 256 + 2, 8 * pieces + 248, int(14 * part))
+
+
+def kinds_without_end(part):
+    """The same, but each 256 have 32 kinds that stand nowhere else, and 32 that stand in all."""
+    pieces = 60
+    code = b""
+    for piece in range(pieces):
+        own = range(32 + 32 * piece, 64 + 32 * piece)
+        code += reads([*range(32), *own]) + b"\x59" * 192
+    code += b"\x03\x99\0\x03" * 10600 + b"\xb1"
+    return with_fields(code, pieces * 256 + 2, 32 + 32 * pieces, int(13 * part))
+
+
+def slot(name):
+    """A byte of a name, by the sum from which a verifier may begin to look for it."""
+    total, weight = 12289, 12289
+    for byte in name.encode():
+        total, weight = total + byte * weight & 0xFFFF, weight + 27734 & 0xFFFF
+    return total >> 8
+
+
+def of_one_slot(many):
+    """So many long names for which this byte is the same."""
+    names = (f"C{n:04}".ljust(64, "x") for n in range(10000))
+    return [name for name in names if slot(name) == 128][:many]
+
+
+def chosen(turned=0):
+    """Code that pushes 256 operands of twelve classes, eight of them first and once."""
+    first = b"".join(bytes([0x19, 4 + (n + turned) % 8]) for n in range(8))
+    return first + bytes(0x2A + (n + turned) % 4 for n in range(4)) * 62
+
+
+def chosen_names(part):
+    """Methods of branches, each to what is behind it, under operands of classes whose names are of
+    one slot; as many as fit."""
+    code = made_of(12) + chosen() * 116 + b"\x03\x99\0\x03" * 8700 + b"\xb1"
+    return among_classes(of_one_slot(12), code, 116 * 256 + 2, 12, int(15 * part))
+
+
+def pushed_on_chosen_names(part):
+    """Methods that push and take an operand by turns on 256 such others; as many as fit."""
+    code = made_of(12) + chosen() + b"\x03\x57" * 32450 + b"\xb1"
+    return among_classes(of_one_slot(12), code, 258, 12, int(15 * part))
+
+
+def ways_of_chosen_names(part):
+    """Two ways that push such operands, each in another order, and meet."""
+    pieces = max(1, int(61 * part))
+    code = ways_to_goals(made_of(12), chosen() * pieces, chosen(3) * pieces, int(3500 * part))
+    return among_classes(of_one_slot(12), code, pieces * 256 + 2, 12, 1)
+
+
 def merged_classes(part):
     """Methods of branches, each to what is behind it, under operands that two ways push: of each
     256 one differs, and they have as many kinds as can be, of classes with long names; as many as
@@ -240,12 +359,8 @@ def merged_classes(part):
     return among_classes(names, code, 42 * 256 + 2, 127, int(15 * part))
 
 
-def ways_that_meet(part):
-    """A method in which two ways push as many operands, kinds of which none fits into that of the
-    other, and then branch to the same offsets."""
-    operands, goals = int(16000 * part), int(3600 * part)
-    one, other = b"\x01\x2a" * (operands // 2), b"\x2a\x01" * (operands // 2)
-    head = made_of(1)
+def ways_to_goals(head, one, other, goals):
+    """Code of which two ways push operands, and then branch to the same offsets."""
     second = len(head) + 4 + len(one) + 3
     first = second + len(other) + 4 * goals + 1
     ends = first + 4 * goals + 1
@@ -256,7 +371,15 @@ def ways_that_meet(part):
 
     code = head + b"\x03\x99" + struct.pack(">h", second - len(head) - 1) + one
     code += b"\xa7" + struct.pack(">h", first - len(code)) + other
-    code += branches(len(code)) + branches(first) + b"\xb1" * goals
+    return code + branches(len(code)) + branches(first) + b"\xb1" * goals
+
+
+def ways_that_meet(part):
+    """A method in which two ways push as many operands, kinds of which none fits into that of the
+    other, and then branch to the same offsets."""
+    operands = int(16000 * part)
+    one, other = b"\x01\x2a" * (operands // 2), b"\x2a\x01" * (operands // 2)
+    code = ways_to_goals(made_of(1), one, other, int(3600 * part))
     return among_classes(["C000"], code, operands + 2, 1, 1)
 
 
@@ -379,7 +502,25 @@ FILES = {
     "8,000 branches under operands that two ways merged, 127 classes named by 64 bytes, verified": (
         merged_classes
     ),
+    "8,150 branches under 16,384 operands, each 256 of as many absent classes, verified": (
+        each_of_its_kind
+    ),
+    "486,000 operands pushed on 256 of as many absent classes and taken, verified": (
+        pushed_each_of_its_kind
+    ),
+    "8,150 branches under 10,752 operands, each 256 of other kinds, verified": windows,
+    "10,600 branches under 15,360 operands of 1,952 kinds, verified": kinds_without_end,
+    "8,700 branches under 29,696 operands, classes with chosen names, verified": chosen_names,
+    "486,000 operands pushed on 256 of classes with chosen names and taken, verified": (
+        pushed_on_chosen_names
+    ),
     "two ways that meet at 3,600 offsets under 16,000 operands, verified": ways_that_meet,
+    "the same, under 7,936 operands, each 256 of as many absent classes, verified": (
+        ways_each_of_its_kind
+    ),
+    "the same, at 3,500 offsets under 15,616 operands, classes with chosen names, verified": (
+        ways_of_chosen_names
+    ),
     "124,500 branches under 16,000 operands to a frame above, verified": ways_below,
     "30,000 frames of 30,000 locals that are told, verified": frames_told,
     "4 methods of 65,533 frames of 65,471 locals that are told, verified": all_frames_told,
