@@ -46,8 +46,8 @@ def files_that_name_each_other(part):
     return made, ["C000", "in.txt", "1"]
 
 
-def of_code(code, room, places, many, entries=(), descriptor=7, fields=()):
-    """A class with so many methods of that code, behind further constants."""
+def of_code(code, room, places, many, entries=(), descriptor=7, fields=(), more=()):
+    """A class with so many methods of that code, behind further constants and methods."""
     names = [long_class.utf8(f"m{n:05}") for n in range(many)]
     body = struct.pack(">HHI", room, places, len(code)) + code + b"\0\0\0\0"
     first = 8 + len(entries)
@@ -55,7 +55,8 @@ def of_code(code, room, places, many, entries=(), descriptor=7, fields=()):
         struct.pack(">HHHHHI", 0x0009, first + n, descriptor, 1, 5, len(body)) + body
         for n in range(many)
     ]
-    return {"Long": file_of([*entries, *names], [main(b"\xb1", 0, 0), *methods], fields)}
+    methods = [main(b"\xb1", 0, 0), *more, *methods]
+    return {"Long": file_of([*entries, *names], methods, fields)}
 
 
 def long_code(part):
@@ -400,6 +401,32 @@ def ways_below(part):
     return among_classes(["C000", "C001"], code, operands + 2, 2, int(15 * part))
 
 
+def exceptions_below(part):
+    """Methods in which two ways set 255 locals to exceptions of two classes and meet, so that the
+    frame there is above both; the second one then branches there over and over; as many as fit.
+    127 classes of exceptions have names that differ late."""
+    names = [f"C{n:03}".rjust(64, "x") for n in range(127)]
+    half = 7780
+    one, other = (
+        b"".join(struct.pack(">BHBB", 0xBB, 9 + 2 * n, 0x3A, place) for place in range(255))
+        for n in (125, 126)
+    )
+    branch, jump = b"\x03\x99", b"\xa7"
+    goal = 4 * half + 3
+
+    def back(ends):
+        return b"".join(branch + struct.pack(">h", ends - 4 * n - 1) for n in range(half))
+
+    code = branch + struct.pack(">h", len(one) + 6) + one
+    code += jump + struct.pack(">h", 3 + len(other) + goal) + other
+    code += back(goal) + jump + b"\0\4\xb1" + back(-1) + b"\xb1"
+    files, words = among_classes(names, code, 1, 255, int(15 * part))
+    above, exception = long_class.utf8("java/lang/Object"), long_class.utf8("java/lang/Exception")
+    for name in names:
+        files[name] = files[name].replace(above, exception, 1)
+    return files, words
+
+
 def of_frames(locals_, code, frames, later, methods):
     """Methods of version 51 with that code and so many frames: one of all locals of the third byte,
     of which nothing is known, and behind it what is written of the later ones."""
@@ -445,6 +472,31 @@ def arguments_shared(part):
     entries = [long_class.utf8("(" + "I" * shared + ")V"), *names]
     file = file_of(entries, [main(b"\xb1", 0, 0), *methods])
     return {"Long": file[:6] + b"\0\x33" + file[8:]}, RUN
+
+
+def arguments_verified(part):
+    return arguments_shared(part)[0], VERIFY
+
+
+def calls_never_reached(part):
+    """Methods with calls of as many arguments as a descriptor has, which code goes back over and
+    never comes to; as many as fit."""
+    calls = 10921
+    code = b"\xb1" + (b"\xb8\0\x0b" * calls + b"\xa7" + struct.pack(">h", -3 * calls)) * 2
+    text, name = long_class.utf8("(" + "I" * 65532 + ")V"), long_class.utf8("taken")
+    entries = [text, name, b"\x0c" + struct.pack(">HH", 9, 8), b"\x0a" + struct.pack(">HH", 2, 10)]
+    body = struct.pack(">HHI", 0, 65535, 1) + b"\xb1\0\0\0\0"
+    taken = struct.pack(">HHHHHI", 0x0009, 9, 8, 1, 5, len(body)) + body
+    return of_code(code, 0, 0, int(14 * part), entries, more=[taken]), VERIFY
+
+
+def handlers_apart(part):
+    """A method with a handler for each instruction, which code goes back over."""
+    many = int(65530 * part) // 2 * 2
+    back = min(many, 32766)
+    code = b"\x03\x57" * (many // 2) + b"\xa7" + struct.pack(">h", -back) + b"\x57\xb1"
+    apart = (struct.pack(">HHHH", at, at + 1, many + 3, 0) for at in range(many))
+    return {"Long": file_of([], [main(code, 1, 0, b"".join(apart))])}, VERIFY
 
 
 def throws_past(part, named):
@@ -522,9 +574,13 @@ FILES = {
         ways_of_chosen_names
     ),
     "124,500 branches under 16,000 operands to a frame above, verified": ways_below,
+    "15,560 branches with 255 exceptions to a frame above, verified": exceptions_below,
     "30,000 frames of 30,000 locals that are told, verified": frames_told,
     "4 methods of 65,533 frames of 65,471 locals that are told, verified": all_frames_told,
     "65,535 handlers around all code, verified": handlers_around,
+    "65,530 handlers, each around an instruction, verified": handlers_apart,
+    "24,000 methods that share 60,000 arguments, verified": arguments_verified,
+    "305,000 calls of 65,532 arguments that are never reached, verified": calls_never_reached,
     "100,000 steps that throw past 65,000 handlers": throws_past_handlers,
     "the same, which name two constants by turns": throws_past_two_names,
     "the same, which name 500 constants by turns": throws_past_names,
