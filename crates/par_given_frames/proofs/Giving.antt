@@ -1,8 +1,8 @@
 -- The attributes of code give frames where all forms are placed and all needed offsets are flagged.
-use Rattle.std.proofs.Common.{◌≡◌, ℕ, ℤ, pos, negsuc, Bool, true, false, ◌==◌, ◌↔◌}
+use Rattle.std.proofs.Common.{◌≡◌, ℕ, ℤ, pos, negsuc, Bool, true, ◌==◌, ◌↔◌}
 use Rattle.std.proofs.Common.{List, [], ◌∷◌, length, Some, None, refl, sym, ap, subst}
 use Rattle.std.proofs.Common.{◌∙◌, zero, suc, inl, inr, arith}
-use Rattle.std.specs.Prelude.{Contains}
+use Rattle.std.specs.Prelude.{Contains, Err}
 use Rattle.std.proofs.lemmas.Bool.{eqb-true, eq-eqb, or_cases, or_left, or_right}
 use Rattle.std.proofs.lemmas.List.Elements.{All-from_recursion, recursion_from_All}
 use Rattle.par_class.specs.declared.file.CodeAttr.{CodeAttr}
@@ -15,7 +15,10 @@ use Rattle.par_frames.specs.Broken.{IsPlacedIn, HasFrame}
 use Rattle.par_given_frames.specs.Sizes.{framed}
 use Rattle.par_given_frames.specs.Met.{told_at}
 use Rattle.par_given_frames.specs.Named.{forms_given, GivesFrames}
-use Rattle.par_given_frames.specs.Answers.{AreRight}
+use Rattle.par_given_frames.specs.declared.error.Unread.{Unread}
+use Rattle.par_given_frames.specs.declared.error.Unread.TheVariants.{Refused, Memory}
+use Rattle.par_given_frames.specs.Reads.{Fails}
+use Rattle.par_given_frames.specs.Answers.{AreRight, Tells}
 use Rattle.par_given_frames.proofs.Tables.{given-said}
 use Rattle.par_given_frames.proofs.Counted.{stands_at, placed-are, said-are}
 
@@ -75,10 +78,11 @@ module _ (file : ClassFile) (m : MethodFile) (code : CodeAttr) where
       absurd (cc (sym (given-said file m code.attributes
       ∙ ap (λ o. on_some o (frames_said file.pool.entries 0 (start_of file m))) e) ∙ g.given))
 
-  -- no forms are spelled
-  pub unspelled : forms_given file.pool.entries code.attributes ≡ None
-      → (false ≡ true) ↔ GivesFrames file m code
-  unspelled e = (λ t. absurd (cc t), λ g. absurd (none-given e g))
+  -- no forms are spelled, or memory ran out
+  pub unspelled : (e : Unread) → Fails e (forms_given file.pool.entries code.attributes)
+      → Tells (GivesFrames file m code) (Err e)
+  unspelled Refused none = none-given none
+  unspelled Memory wanting = tt
 
   module _ (forms : List FrameForm)
       (e : forms_given file.pool.entries code.attributes ≡ Some forms) where

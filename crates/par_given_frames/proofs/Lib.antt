@@ -10,5 +10,6 @@ mod Classes
 pub mod Firsts
 mod Giving
 mod Having
+mod Handed
 pub mod Written
 pub use Rattle.par_frames.proofs as par_frames

@@ -1,5 +1,6 @@
 -- What is told of a method, and of a file.
-use Rattle.std.specs.Prelude.{◌≡◌, ℕ, ℤ, true, List, Option, Some, None, Result, Ok, Err, slice_get}
+use Rattle.std.specs.Prelude.{◌≡◌, ◌↔◌, ℕ, ℤ, Bool, true, List, Option, Some, None, slice_get}
+use Rattle.std.specs.Prelude.{Result, Ok, Err}
 use Rattle.std.specs.List.{AllZip}
 use Rattle.par_pool.specs.declared.constant.Constant.{Constant}
 use Rattle.par_class.specs.declared.file.CodeAttr.{CodeAttr}
@@ -29,6 +30,12 @@ AnswersFor file m (Ok fs) = AreFrames file m fs
 AnswersFor file m (Err Refused) = HasFrames file m → ⊥
 AnswersFor file m (Err Memory) = Unit {0}
 
+-- whether a fact holds, which does not where reading is refused, unless memory ran out
+abbrev pub Tells : Type 0 → Result Bool Unread → Type 0
+Tells Fact (Ok b) = (b ≡ true) ↔ Fact
+Tells Fact (Err Refused) = Fact → ⊥
+Tells Fact (Err Memory) = Unit {0}
+
 -- all methods have frames, or this is the first that has none
 abbrev pub IsFirstBroken : ClassFile → Option ℕ → Type 0
 IsFirstBroken file None =
@@ -40,6 +47,12 @@ abbrev pub FramesOf : ClassFile → Result (List MethodFrames) FrameError → Ty
 FramesOf file (Ok fs) = AllZip (AreFrames file) file.methods fs
 FramesOf file (Err (error.Broken number method)) = IsBroken file number method
 FramesOf file (Err error.Memory) = Unit {0}
+
+-- what is told of the method at a place: its frames, that it is broken, or that memory is wanting
+abbrev pub told_as : ℕ → Result MethodFrames Unread → Result MethodFrames FrameError
+told_as method (Ok frames) = Ok frames
+told_as method (Err Refused) = Err (error.Broken 46 method)
+told_as method (Err Memory) = Err error.Memory
 
 -- forms say the frames of a method, if it has frames
 abbrev pub AreFormsOf : ClassFile → MethodFile → List FrameForm → Type 0

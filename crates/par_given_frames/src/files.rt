@@ -1,11 +1,11 @@
 //! The frames of all methods of a class file.
 
-ghost use Rattle.std.specs.Prelude.{IfOk};
+ghost use Rattle.std.specs.Prelude.{◌≡◌, IfOk};
 ghost use Rattle.par_base.specs.Names.{IsName};
 ghost use Rattle.par_single.specs.Members.{own_name};
 ghost use Rattle.par_frames.specs.par_link.Conditions.{IsSmall};
 ghost use Rattle.par_given_frames.specs.Named.{AreNamed};
-ghost use Rattle.par_given_frames.specs.Answers.{IsFirstBroken, FramesOf};
+ghost use Rattle.par_given_frames.specs.Answers.{IsFirstBroken, FramesOf, told_as};
 
 use crate::error::Unread;
 use crate::methods::{has_frames, method_frames};
@@ -35,6 +35,20 @@ pub fn first_unframed(alloc: Global, file: &ClassFile) -> Result<Option<u32>, No
     Ok(None)
 }
 
+/// What is told of the method of this number, where this was read of it.
+fn told(read: Result<MethodFrames, Unread>, method: u32) -> Result<MethodFrames, FrameError>
+    ensures { result ≡ told_as method read }
+{
+    match read {
+        Ok(frames) => Ok(frames),
+        Err(Unread::Refused) => Err(FrameError::Broken {
+            number: UNFRAMED,
+            method,
+        }),
+        Err(Unread::Memory) => Err(FrameError::Memory),
+    }
+}
+
 /// The frames of each method of a class file, in the order of the table.
 pub fn frames_of(alloc: Global, file: &ClassFile) -> Result<List<MethodFrames>, FrameError>
     requires small { IsSmall file.now }
@@ -46,16 +60,9 @@ pub fn frames_of(alloc: Global, file: &ClassFile) -> Result<List<MethodFrames>, 
     let counts = argument_counts(alloc, file.pool.entries.as_slice())?;
     let mut frames = List::new(alloc);
     for place in 0..methods.len() {
-        match method_frames(alloc, counts.as_slice(), file, &methods[place]) {
-            Ok(of_method) => frames.push(of_method)?,
-            Err(Unread::Refused) => {
-                return Err(FrameError::Broken {
-                    number: UNFRAMED,
-                    method: place as u32,
-                });
-            }
-            Err(Unread::Memory) => return Err(FrameError::Memory),
-        }
+        let read = method_frames(alloc, counts.as_slice(), file, &methods[place]);
+        let of_method = told(read, place as u32)?;
+        frames.push(of_method)?;
     }
     Ok(frames)
 }

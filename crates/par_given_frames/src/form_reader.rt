@@ -1,6 +1,6 @@
 //! The forms of frames that bytes spell.
 
-ghost use Rattle.std.specs.Prelude.{◌≤◌, ◌<◌, ◌^◌, length, IfOk};
+ghost use Rattle.std.specs.Prelude.{◌≡◌, ◌≤◌, ◌<◌, ◌^◌, length, IfOk, IfErr};
 ghost use Rattle.par_frame_forms.specs.Reading as reading;
 ghost use Rattle.par_frame_forms.specs.Reading.{read_u2, type_of, read_type, read_types};
 ghost use Rattle.par_frame_forms.specs.Reading.{read_list, form_of, read_form, read_forms};
@@ -17,6 +17,7 @@ use std::alloc::Global;
 fn u2(bytes: &[u8]) -> Result<(u16, &[u8]), Unread>
     ensures read { Gives (λ x. seen x.0 x.1.now) result (read_u2 bytes.now) }
     ensures few { IfOk result (λ x. x.0 < 2 ^ 16) }
+    ensures refused { IfErr result (λ e. e ≡ Unread.Refused) }
 {
     if bytes.len() < 2 {
         return Err(Unread::Refused);
@@ -26,7 +27,8 @@ fn u2(bytes: &[u8]) -> Result<(u16, &[u8]), Unread>
 
 /// The type of this tag, and the bytes behind it.
 fn type_of(tag: u8, bytes: &[u8]) -> Result<(PlaceType, &[u8]), Unread>
-    ensures { Gives (λ x. seen x.0 x.1.now) result (type_of tag bytes.now) }
+    ensures read { Gives (λ x. seen x.0 x.1.now) result (type_of tag bytes.now) }
+    ensures refused { IfErr result (λ e. e ≡ Unread.Refused) }
 {
     match tag {
         0 => Ok((PlaceType::Top, bytes)),
@@ -42,7 +44,8 @@ fn type_of(tag: u8, bytes: &[u8]) -> Result<(PlaceType, &[u8]), Unread>
 
 /// The type of a local or an operand.
 fn place_type(bytes: &[u8]) -> Result<(PlaceType, &[u8]), Unread>
-    ensures { Gives (λ x. seen x.0 x.1.now) result (read_type bytes.now) }
+    ensures read { Gives (λ x. seen x.0 x.1.now) result (read_type bytes.now) }
+    ensures refused { IfErr result (λ e. e ≡ Unread.Refused) }
 {
     match bytes {
         [] => Err(Unread::Refused),

@@ -13,10 +13,10 @@ ghost use Rattle.par_frames.specs.Broken.{HasFrames};
 ghost use Rattle.par_given_frames.specs.Reads.{Gives};
 ghost use Rattle.par_given_frames.specs.Named as named;
 ghost use Rattle.par_given_frames.specs.Named.{AreNamed, GivesFrames};
-ghost use Rattle.par_given_frames.specs.Answers.{AnswersFor, AreRight, AreFormsOf};
+ghost use Rattle.par_given_frames.specs.Answers.{AnswersFor, AreRight, AreFormsOf, Tells};
 ghost use Rattle.par_given_frames.specs.Takes.{AreCounts};
 
-use crate::error::Unread;
+use crate::error::{Unread, read_or};
 use crate::form_reader::forms_in;
 use crate::frames::{frames_said, start_of};
 use crate::needed::are_met;
@@ -92,24 +92,20 @@ fn are_right(
     place_all(flags, starts, code, entries, listed, forms) && are_met(flags, starts, code)
 }
 
-/// Whether the attributes of code give frames.
-fn gives_frames(
+/// Whether the forms that the attributes of code spell give frames.
+fn spells_frames(
     alloc: Global,
     counts: &[usize],
     file: &ClassFile,
     m: &MethodFile,
     code: &CodeAttr,
-) -> Result<bool, NoMemory>
+) -> Result<bool, Unread>
     requires short { length code.now.code ≤ 65535 }
     requires counted { AreCounts file.now.pool.entries counts.now }
-    ensures { IfOk result (λ gives. IsTrue gives ↔ GivesFrames file.now m.now code.now) }
+    ensures { Tells (GivesFrames file.now m.now code.now) result }
 {
     let entries = file.pool.entries.as_slice();
-    let forms = match forms_given(alloc, entries, code.attributes.as_slice()) {
-        Ok(forms) => forms,
-        Err(Unread::Refused) => return Ok(false),
-        Err(Unread::Memory) => return Err(NoMemory),
-    };
+    let forms = forms_given(alloc, entries, code.attributes.as_slice())?;
     let bytes = code.code.as_slice();
     let starts = Starts::of(alloc, bytes)?;
     let mut flags = vec![in alloc; false; bytes.len()]?;
@@ -122,6 +118,21 @@ fn gives_frames(
         listed,
         forms.as_slice(),
     ))
+}
+
+/// Whether the attributes of code give frames: none where they spell no list of forms.
+fn gives_frames(
+    alloc: Global,
+    counts: &[usize],
+    file: &ClassFile,
+    m: &MethodFile,
+    code: &CodeAttr,
+) -> Result<bool, NoMemory>
+    requires short { length code.now.code ≤ 65535 }
+    requires counted { AreCounts file.now.pool.entries counts.now }
+    ensures { IfOk result (λ gives. IsTrue gives ↔ GivesFrames file.now m.now code.now) }
+{
+    read_or(spells_frames(alloc, counts, file, m, code), false)
 }
 
 /// Whether a method has frames, of which none is kept.
@@ -204,11 +215,7 @@ fn spelled_forms(
         IfSome (named.forms_given entries.now attributes.now) (λ given. forms ≡ given)) }
     ensures few { IfOk result (λ forms. length forms < 2 ^ 16) }
 {
-    match forms_given(alloc, entries, attributes) {
-        Ok(forms) => Ok(forms),
-        Err(Unread::Refused) => Ok(List::new(alloc)),
-        Err(Unread::Memory) => Err(NoMemory),
-    }
+    read_or(forms_given(alloc, entries, attributes), List::new(alloc))
 }
 
 /// The forms of the frames of a method, which take no more memory than its attributes. Where it

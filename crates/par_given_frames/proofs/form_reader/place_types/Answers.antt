@@ -17,7 +17,7 @@ returns-in_err-t c =
     rw (p.1, p.2)
     (ends read_type read_types by c.loop.types c.args.many c.loop.counter c.loop.rest.now
     (read_types c.args.many c.args.bytes.now) c.in_err-t.field-0.0 c.loop-test.true
-    c.in_err-t.ensures
+    c.in_err-t.ensures.read
     c.loop.invariant)
 
 pub loop-preserved : goal.loop-preserved
@@ -25,7 +25,7 @@ loop-preserved c =
     rw c.in_ok-push.ensures.ok
     (goes_on read_type read_types by c.loop.types c.args.many c.loop.counter c.loop.rest.now
     (read_types c.args.many c.args.bytes.now) c.in_ok-t.t c.in_ok-t.behind.now c.loop-test.true
-    c.in_ok-t.ensures c.loop.invariant)
+    c.in_ok-t.ensures.read c.loop.invariant)
 
 pub returns : goal.returns
 returns c =
