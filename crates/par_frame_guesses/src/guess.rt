@@ -41,38 +41,30 @@ struct Sketch<'m, 'f> {
     facts: Facts,
 }
 
-/// How many locals a frame lists: those that instructions name or that are told.
-fn listed(method: &Method, table: &[Option<PlaceFrame>]) -> usize {
-    let mut many = NAMED.min(method.code.max_locals as usize);
-    for frame in table {
-        if let Some(frame) = frame {
-            many = many.max(frame.locals.len());
-        }
-    }
-    many
+/// How many locals a frame lists: those that instructions can name.
+fn listed(method: &Method) -> usize {
+    NAMED.min(method.code.max_locals as usize)
 }
 
-/// The pieces of a method, none where its code is not whole or they have too many ways.
+/// The pieces of a method, before which nothing is known yet.
 fn sketched<'m, 'f>(
     alloc: Global,
     method: &Method<'m, 'f>,
     table: &[Option<PlaceFrame<'f>>],
-) -> Result<Option<Sketch<'m, 'f>>, NoMemory>
+) -> Result<Sketch<'m, 'f>, NoMemory>
     requires { length (code_in method.now).code ≤ 65535 }
 {
     let mut classes = Classes::new(alloc, method.exceptions);
-    let Some(mut spots) = spots(alloc, method, table, &mut classes)? else {
-        return Ok(None);
-    };
+    let mut spots = spots(alloc, method, table, &mut classes)?;
     let likes = likes(alloc, &spots)?;
     join(alloc, &mut spots, &likes)?;
-    let facts = Facts::of_nothing(alloc, &spots, listed(method, table))?;
-    Ok(Some(Sketch {
+    let facts = Facts::of_nothing(alloc, &spots, listed(method))?;
+    Ok(Sketch {
         classes,
         spots,
         likes,
         facts,
-    }))
+    })
 }
 
 impl<'f> Sketch<'_, 'f> {
@@ -204,9 +196,7 @@ pub fn guessed<'f>(
     if !is_guessable(method, &back) {
         return Ok(Vec::new(alloc));
     }
-    let Some(mut sketch) = sketched(alloc, method, table)? else {
-        return Ok(Vec::new(alloc));
-    };
+    let mut sketch = sketched(alloc, method, table)?;
     let patience = method.code.code.len().saturating_mul(PATIENCE);
     if !sketch.settle(alloc, table, patience)? {
         return Ok(Vec::new(alloc));

@@ -6,6 +6,7 @@
 #![tactic(auto)]
 
 mod back;
+mod bounds;
 mod due;
 mod facts;
 mod frames;

@@ -4,6 +4,7 @@ ghost use Rattle.std.specs.Prelude.{◌≤◌, length};
 ghost use Rattle.par_frame_guesses.specs.Methods.{code_in};
 
 use crate::back::{is_marked, mark};
+use crate::bounds::Bounds;
 use crate::frames::kept;
 use crate::method::Method;
 use par_base::memory::NoMemory;
@@ -20,6 +21,16 @@ use std::alloc::Global;
 pub(crate) struct Goals {
     pub(crate) ahead: Option<usize>,
     pub(crate) aside: Option<usize>,
+}
+
+impl Goals {
+    /// None.
+    fn nowhere() -> Goals {
+        Goals {
+            ahead: None,
+            aside: None,
+        }
+    }
 }
 
 /// A piece of code.
@@ -81,6 +92,17 @@ fn mark_handlers(catches: &[Catch], heads: &mut [bool]) {
     }
 }
 
+/// Lets a piece that begins within an instruction begin behind it.
+fn put_off(heads: &mut [bool], at: usize) {
+    if !is_marked(heads, at) {
+        return;
+    }
+    if let Some(head) = heads.get_mut(at) {
+        *head = false;
+    }
+    mark(heads, at.saturating_add(1));
+}
+
 /// Of each offset whether a piece begins there, where these frames stand.
 pub(crate) fn heads(
     alloc: Global,
@@ -99,6 +121,11 @@ pub(crate) fn heads(
         }
         if method.starts.has(at as u32) {
             mark_ends(bytes, !catches.is_empty(), &mut heads, at);
+        }
+    }
+    for at in 0..bytes.len() {
+        if !method.starts.has(at as u32) {
+            put_off(&mut heads, at);
         }
     }
     Ok(heads)
@@ -120,21 +147,20 @@ fn goals_of(heads: &[bool], flow: Flow, at: usize, next: usize) -> Option<Goals>
             ahead,
             aside: goal(at, far),
         }),
-        Flow::Nowhere => Some(Goals {
-            ahead: None,
-            aside: None,
-        }),
+        Flow::Nowhere => Some(Goals::nowhere()),
     }
 }
 
-/// The piece that begins at an offset, if its code is whole.
+/// The piece that begins at an offset. It goes nowhere where its code is not whole, or where more
+/// would have to be looked at than may be.
 pub(crate) fn piece_at<'m, 'f>(
     alloc: Global,
     method: &Method<'m, 'f>,
     heads: &[bool],
     classes: &mut Classes<'m, 'f>,
+    bounds: &mut Bounds,
     from: usize,
-) -> Result<Option<Piece>, NoMemory>
+) -> Result<Piece, NoMemory>
     requires within { from ≤ length (code_in method.now).code }
     requires small { length (code_in method.now).code ≤ 65535 }
 {
@@ -143,14 +169,20 @@ pub(crate) fn piece_at<'m, 'f>(
     let mut at = from;
     for _instr in 0..bytes.len() {
         let Ok((instr, next)) = decode(bytes, at) else {
-            return Ok(None);
+            break;
         };
+        if !bounds.may_ask(method, instr, next - at) {
+            break;
+        }
         let act = act(alloc, method.linked, method.class, method.gives, instr)?;
         effect.follow(classes, &act)?;
         if let Some(goals) = goals_of(heads, act.flow, at, next) {
-            return Ok(Some(Piece { effect, goals }));
+            return Ok(Piece { effect, goals });
         }
         at = next;
     }
-    Ok(None)
+    Ok(Piece {
+        effect,
+        goals: Goals::nowhere(),
+    })
 }

@@ -4,6 +4,7 @@ ghost use Rattle.std.specs.Prelude.{◌≤◌, length};
 ghost use Rattle.par_frame_guesses.specs.Methods.{code_in};
 
 use crate::back::is_marked;
+use crate::bounds::Bounds;
 use crate::frames::kept;
 use crate::handler::is_around;
 use crate::method::Method;
@@ -14,9 +15,6 @@ use par_frame_acts::caught;
 use par_frame_steps::PlaceFrame;
 use par_small_kinds::{Classes, Effect, SmallKind};
 use std::alloc::Global;
-
-/// How many ways are kept, before nothing is guessed.
-const MOST_WAYS: usize = 1048576;
 
 /// A way on from a piece.
 #[derive(Clone, Copy)]
@@ -101,10 +99,18 @@ fn ways_to(alloc: Global, numbers: &[Option<usize>], goals: Goals) -> Result<Vec
     Ok(ways)
 }
 
-/// Adds the ways to the handlers that are around an offset.
-fn add_throws(ways: &mut Vec<Way>, handlers: &[Handler], at: u32) -> Result<(), NoMemory> {
+/// Adds the ways to the handlers that are around an offset, but those that are too many.
+fn add_throws(
+    ways: &mut Vec<Way>,
+    handlers: &[Handler],
+    bounds: &mut Bounds,
+    at: u32,
+) -> Result<(), NoMemory> {
+    if !bounds.may_look(handlers.len()) {
+        return Ok(());
+    }
     for handler in handlers {
-        if is_around(at, handler.catch) {
+        if is_around(at, handler.catch) && bounds.may_throw() {
             ways.push(handler.way)?;
         }
     }
@@ -139,57 +145,49 @@ fn outlined<'m, 'f>(
 }
 
 impl Outline<'_> {
-    /// The piece that begins at an offset, if its code is whole.
+    /// The piece that begins at an offset.
     fn spot<'m, 'f>(
         &self,
         alloc: Global,
         method: &Method<'m, 'f>,
         table: &[Option<PlaceFrame<'f>>],
         classes: &mut Classes<'m, 'f>,
+        bounds: &mut Bounds,
         at: usize,
-    ) -> Result<Option<Spot>, NoMemory>
+    ) -> Result<Spot, NoMemory>
         requires within { at ≤ length (code_in method.now).code }
         requires small { length (code_in method.now).code ≤ 65535 }
     {
-        let Some(piece) = piece_at(alloc, method, &self.heads, classes, at)? else {
-            return Ok(None);
-        };
+        let piece = piece_at(alloc, method, &self.heads, classes, bounds, at)?;
         let is_told = kept(table, at).is_some();
         let at = at as u32;
         let mut ways = ways_to(alloc, &self.numbers, piece.goals)?;
-        add_throws(&mut ways, &self.handlers, at)?;
-        Ok(Some(Spot {
+        add_throws(&mut ways, &self.handlers, bounds, at)?;
+        Ok(Spot {
             at,
             effect: piece.effect,
             ways,
             is_told,
-        }))
+        })
     }
 }
 
-/// The pieces of a method, by their offsets; none where its code is not whole or has too many ways.
+/// The pieces of a method, by their offsets.
 pub(crate) fn spots<'m, 'f>(
     alloc: Global,
     method: &Method<'m, 'f>,
     table: &[Option<PlaceFrame<'f>>],
     classes: &mut Classes<'m, 'f>,
-) -> Result<Option<Vec<Spot>>, NoMemory>
+) -> Result<Vec<Spot>, NoMemory>
     requires { length (code_in method.now).code ≤ 65535 }
 {
     let outline = outlined(alloc, method, table, classes)?;
+    let mut bounds = Bounds::new();
     let mut spots = Vec::new(alloc);
-    let mut ways: usize = 0;
     for at in 0..method.code.code.len() {
         if is_marked(&outline.heads, at) {
-            let Some(spot) = outline.spot(alloc, method, table, classes, at)? else {
-                return Ok(None);
-            };
-            ways = ways.saturating_add(spot.ways.len());
-            if ways > MOST_WAYS {
-                return Ok(None);
-            }
-            spots.push(spot)?;
+            spots.push(outline.spot(alloc, method, table, classes, &mut bounds, at)?)?;
         }
     }
-    Ok(Some(spots))
+    Ok(spots)
 }
