@@ -86,20 +86,26 @@ def nested_loops(part):
     return of_code(code + b"\xb1", 1, 255, int(30 * part)), VERIFY
 
 
-def around_objects(part, order):
-    """Loops 5,200 deep around 252 locals that hand on their objects: each way round all of them
-    tells of one local more that it has objects of several classes. Code goes back to their heads
-    in that order."""
+def object_loops(deep, order):
+    """The code of loops so deep around 252 locals that hand on their objects, and the constants
+    that it needs beside those of each class: each way round all loops tells of one local more that
+    it has objects of several classes. Code goes back to their heads in that order."""
     other = [long_class.utf8("java/lang/NullPointerException"), b"\x07\0\x08"]
     code = b"".join(b"\xbb\0\x02\x3a" + bytes([n]) for n in range(252))
-    heads = range(len(code), len(code) + 2 * 5200, 2)
+    heads = range(len(code), len(code) + 2 * deep, 2)
     code += b"\x03\x57" * len(heads)
     code += b"".join(bytes([0x19, n, 0x3a, n + 1]) for n in reversed(range(251)))
     code += b"\xbb\0\x09\x3a\0"
     for head in order(heads):
         code += b"\x03"
         code += b"\x99" + struct.pack(">h", head - len(code))
-    return of_code(code + b"\xb1", 1, 252, int(30 * part), other), VERIFY
+    return code + b"\xb1", other
+
+
+def around_objects(part, order):
+    """Methods of loops 5,200 deep around locals that hand on objects."""
+    code, other = object_loops(5200, order)
+    return of_code(code, 1, 252, int(30 * part), other), VERIFY
 
 
 def loops_around_objects(part):
@@ -306,12 +312,20 @@ def kinds_without_end(part):
     return with_fields(code, pieces * 256 + 2, 32 + 32 * pieces, int(13 * part))
 
 
+def folded(one, other):
+    """The halves of a product of two words, joined by exclusive or."""
+    product = one * other
+    return (product ^ product >> 64) & 2**64 - 1
+
+
 def slot(name):
-    """A byte of a name, by the sum from which a verifier may begin to look for it."""
-    total, weight = 12289, 12289
-    for byte in name.encode():
-        total, weight = total + byte * weight & 0xFFFF, weight + 27734 & 0xFFFF
-    return total >> 8
+    """The slot in which a verifier looks for a name of 64 bytes first: the last byte of what the
+    standard library's hash gives, whose seed is fixed."""
+    words = struct.unpack("<8Q", name.encode())
+    state = 0x243F6A8885A308D3 + 64
+    for place in range(0, 8, 2):
+        state = folded(words[place] ^ state, words[place + 1] ^ 0x9E3779B97F4A7C15)
+    return state & 0xFF
 
 
 def of_one_slot(many):
