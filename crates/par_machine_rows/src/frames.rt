@@ -16,9 +16,6 @@ const BEHIND_VERSION: &[u8] = &[
     5, 0, 6, 0, 1, 0, 7,
 ];
 
-/// Code of five bytes without handlers, with room for one operand and for no local.
-const CODE_FRONT: &[u8] = &[0, 1, 0, 0, 0, 0, 0, 5];
-
 /// A branch to offset 4, behind a zero, and a return behind it.
 const BRANCH: [u8; 5] = [3, 0x99, 0, 3, 0xb1];
 
@@ -37,42 +34,57 @@ fn length_of(tables: &[&[u8]]) -> usize {
     length
 }
 
+// Puts a length as four bytes, of which the first two are 0.
+fn put_length(file: &mut Vec<u8>, length: usize) -> Result<(), NoMemory> {
+    let [high, low] = (length.min(65_535) as u16).to_be_bytes();
+    file.extend_from_slice(&[0, 0, high, low])?;
+    Ok(())
+}
+
 // Puts the tables of frames, each as an attribute.
 fn put_tables(file: &mut Vec<u8>, tables: &[&[u8]]) -> Result<(), NoMemory> {
     file.extend_from_slice(&[0, 0, 0, tables.len().min(255) as u8])?;
     for table in tables {
-        file.extend_from_slice(&[0, 8, 0, 0, 0, table.len().min(255) as u8])?;
+        file.extend_from_slice(&[0, 8])?;
+        put_length(file, table.len())?;
         file.extend_from_slice(table)?;
     }
     Ok(())
 }
 
-// Puts what stands behind the version, up to the code.
-fn put_front(file: &mut Vec<u8>, tables: &[&[u8]]) -> Result<(), NoMemory> {
-    let length = length_of(tables).min(200) as u8 + 17;
-    file.extend_from_slice(BEHIND_VERSION)?;
-    file.extend_from_slice(&[0, 0, 0, length])?;
-    file.extend_from_slice(CODE_FRONT)?;
-    Ok(())
+/// Code without handlers, with its room for operands, the number of its locals and its tables of
+/// frames.
+#[derive(Clone, Copy)]
+pub struct FramedCode<'a> {
+    pub room: u16,
+    pub locals: u16,
+    pub bytes: &'a [u8],
+    pub tables: &'a [&'a [u8]],
 }
 
-fn put_all(file: &mut Vec<u8>, code: [u8; 5], tables: &[&[u8]]) -> Result<(), NoMemory> {
-    put_front(file, tables)?;
-    file.extend_from_slice(&code)?;
-    put_tables(file, tables)?;
+// Puts a Code attribute behind its name.
+fn put_code(file: &mut Vec<u8>, code: FramedCode<'_>) -> Result<(), NoMemory> {
+    let length = length_of(code.tables).saturating_add(code.bytes.len());
+    put_length(file, length.saturating_add(12))?;
+    file.extend_from_slice(&code.room.to_be_bytes())?;
+    file.extend_from_slice(&code.locals.to_be_bytes())?;
+    put_length(file, code.bytes.len())?;
+    file.extend_from_slice(code.bytes)?;
+    put_tables(file, code.tables)
+}
+
+// Puts what stands behind the version.
+fn put_all(file: &mut Vec<u8>, code: FramedCode<'_>) -> Result<(), NoMemory> {
+    file.extend_from_slice(BEHIND_VERSION)?;
+    put_code(file, code)?;
     file.extend_from_slice(&[0, 0])?;
     Ok(())
 }
 
-/// The class file of A in this version, whose method has this code with these tables of frames.
-fn class_a(
-    alloc: Global,
-    version: u8,
-    code: [u8; 5],
-    tables: &[&[u8]],
-) -> Result<Vec<u8>, NoMemory> {
+/// The class file of A in this version, whose method has this code.
+pub fn class_a(alloc: Global, version: u8, code: FramedCode<'_>) -> Result<Vec<u8>, NoMemory> {
     let mut file = [0xca, 0xfe, 0xba, 0xbe, 0, 0, 0, version].to_vec(alloc)?;
-    put_all(&mut file, code, tables)?;
+    put_all(&mut file, code)?;
     Ok(file)
 }
 
@@ -224,12 +236,19 @@ const ROWS: &[FrameRow] = &[
     ),
 ];
 
-/// Whether a run of A on these input files has this answer.
+/// A folder with the class file of a row, and an empty input file.
 fn folder_of(alloc: Global, row: &FrameRow) -> Result<MemFolder, NoMemory> {
-    let file = class_a(alloc, row.1, row.2, row.3)?;
+    let code = FramedCode {
+        room: 1,
+        locals: 0,
+        bytes: &row.2,
+        tables: row.3,
+    };
+    let file = class_a(alloc, row.1, code)?;
     folder_with(alloc, &[("A.class", file.as_slice())], "")
 }
 
+/// Whether a run of A on these input files has this answer.
 fn runs_as(alloc: Global, row: &FrameRow, inputs: &str, answer: Answer) -> Result<bool, NoMemory> {
     let mut folder = folder_of(alloc, row)?;
     let command = format!(in alloc; "paragon A {inputs} 9")?;

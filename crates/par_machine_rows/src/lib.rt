@@ -12,6 +12,8 @@ mod links;
 #[cfg(test)]
 mod machine_runs;
 #[cfg(test)]
+mod many_operands;
+#[cfg(test)]
 mod numbers;
 #[cfg(test)]
 mod objects;
