@@ -1,6 +1,6 @@
 //! Public calls of what a run keeps: objects and static fields, frames, and the numbers that are
-//! left of its inputs, and of the lines that tell its events, each run once with ample memory. The
-//! crate is tests alone, and nothing stands on it.
+//! left of its inputs, of the lines that tell its events, and of the long piles of kinds that a
+//! verifier keeps, each run with ample memory. The crate is tests alone, and nothing stands on it.
 #![tactic(auto)]
 
 #[cfg(test)]
@@ -9,5 +9,9 @@ mod event_lines;
 mod heaps;
 #[cfg(test)]
 mod input_lines;
+#[cfg(test)]
+mod piles;
+#[cfg(test)]
+mod place_frames;
 #[cfg(test)]
 mod stacks;
