@@ -19,7 +19,7 @@ ghost use Rattle.par_rounds.specs.Passes.{left_as, within, GoesOn, IsLed, Passed
 ghost use Rattle.par_rounds.specs.Passes.{IsPassable, ArePassable, IsReady, IsSoFar};
 
 use crate::notes::Notes;
-use crate::pass::{Found, SoFar, finish, pass_rules, take};
+use crate::pass::{Found, SoFar, finish, pass_draft, pass_rest, pass_rules, take};
 use par_atoms::Atoms;
 use par_base::memory::NoMemory;
 use par_nodes::make::{ENTRY, PAST};
@@ -167,19 +167,19 @@ fn parts(
         TExprKind::Neg(of) | TExprKind::Not(of) => {
             operand(alloc, table, of, &ENTRY, way, heads, so, notes)?;
             let rest = Rules::Gives(PAST, Worth::Value(0));
-            pass_rules(alloc, &rest, way, heads, so, notes)?;
+            pass_rest(alloc, rest, way, heads, so, notes)?;
             Ok(())
         }
         TExprKind::Field(of, class, field) => {
             operand(alloc, table, of, &ENTRY, way, heads, so, notes)?;
             let rest = rules::selected(alloc, of, declared::field(table, *class, *field))?;
-            pass_rules(alloc, &rest.rules, way, heads, so, notes)?;
+            pass_draft(alloc, rest, way, heads, so, notes)?;
             Ok(())
         }
         TExprKind::Output(_, _, value) => {
             operand(alloc, table, value, &ENTRY, way, heads, so, notes)?;
             let rest = Rules::Ends(PAST, Kind::Normal);
-            pass_rules(alloc, &rest, way, heads, so, notes)?;
+            pass_rest(alloc, rest, way, heads, so, notes)?;
             Ok(())
         }
         TExprKind::Binary(_, _, _) => binary(alloc, table, e, way, heads, so, notes),
@@ -222,7 +222,7 @@ fn binary(
                 notes,
             )?;
             let rest = rules::combined(alloc, *op, right)?;
-            pass_rules(alloc, &rest.rules, way, heads, so, notes)?;
+            pass_draft(alloc, rest, way, heads, so, notes)?;
             Ok(())
         }
         _ => by_rules(alloc, table, e, way, heads, so, notes),
@@ -264,7 +264,7 @@ fn call(
                 notes,
             )?;
             let rest = rules::call_does(alloc, table, *class, *method, of, arguments)?;
-            pass_rules(alloc, &rest.rules, way, heads, so, notes)?;
+            pass_draft(alloc, rest, way, heads, so, notes)?;
             Ok(())
         }
         _ => by_rules(alloc, table, e, way, heads, so, notes),

@@ -21,6 +21,7 @@ ghost use Rattle.par_rounds.specs.Passes.{IsPassable, ArePassable};
 use crate::notes::Notes;
 use par_atoms::Atoms;
 use par_base::memory::NoMemory;
+use par_nodes::draft::Draft;
 use par_nodes::rule::{Absorber, Kind, Node, Origin, Rules, Worth};
 use par_ways::changes::{way_at, worth_at};
 use par_ways::exits::{Exit, add, gather, restore};
@@ -368,4 +369,50 @@ pub fn pass_rules(
             Ok(())
         }
     }
+}
+
+/// Goes through rules that nothing holds behind this.
+pub fn pass_rest(
+    alloc: Global,
+    rest: Rules<'_>,
+    way: &SharedWay,
+    heads: &[Option<SharedWay>],
+    so: &mut SoFar,
+    notes: &mut Notes,
+) -> Result<(), NoMemory>
+    requires ready { IsReady way.now heads.now notes.old }
+    requires so_far { IsSoFar notes.old so.old }
+    requires rules { ArePassable notes.old.locals (length notes.old.heads.items)
+        (seen_rules rest) }
+    ensures { OnOk result ((l : List Event) (m : Noted) → Took l m notes.old
+        → Passed so.new.found (pass_all (ways_of heads.now) (seen_rules rest.entry) (seen way.now)
+        so.old.head (latest_first so.old.parts.items []) (found_of so.old.found l))
+        m notes.new) }
+{
+    let passed = pass_rules(alloc, &rest, way, heads, so, notes);
+    drop(rest);
+    passed
+}
+
+/// The same of the rules of a draft.
+pub fn pass_draft(
+    alloc: Global,
+    rest: Draft<'_>,
+    way: &SharedWay,
+    heads: &[Option<SharedWay>],
+    so: &mut SoFar,
+    notes: &mut Notes,
+) -> Result<(), NoMemory>
+    requires ready { IsReady way.now heads.now notes.old }
+    requires so_far { IsSoFar notes.old so.old }
+    requires rules { ArePassable notes.old.locals (length notes.old.heads.items)
+        (seen_rules rest.rules) }
+    ensures { OnOk result ((l : List Event) (m : Noted) → Took l m notes.old
+        → Passed so.new.found (pass_all (ways_of heads.now) (seen_rules rest.entry.rules)
+        (seen way.now) so.old.head (latest_first so.old.parts.items []) (found_of so.old.found l))
+        m notes.new) }
+{
+    let passed = pass_rules(alloc, &rest.rules, way, heads, so, notes);
+    drop(rest);
+    passed
 }

@@ -21,7 +21,9 @@ ghost use Rattle.par_rounds.specs.Passes.{IsPassable, ArePassable, IsReady, IsSo
 
 use crate::expr::{operand, visit as visit_test};
 use crate::notes::Notes;
-use crate::pass::{Found, SoFar, finish, flow, head_at, leave, pass_rules, take};
+use crate::pass::{
+    Found, SoFar, finish, flow, head_at, leave, pass_draft, pass_rest, pass_rules, take,
+};
 use par_base::memory::NoMemory;
 use par_nodes::expr::start_at;
 use par_nodes::make::{ENTRY, PAST, TESTED};
@@ -58,7 +60,7 @@ fn ends(
     operand(alloc, table, value, &ENTRY, way, heads, so, notes)?;
     let from = Origin { assigned, ..PAST };
     let rest = Rules::Ends(from, Kind::Normal);
-    pass_rules(alloc, &rest, way, heads, so, notes)?;
+    pass_rest(alloc, rest, way, heads, so, notes)?;
     Ok(())
 }
 
@@ -299,7 +301,7 @@ fn repeat(
                 notes,
             )?;
             let rest = rules::again(alloc)?;
-            pass_rules(alloc, &rest.rules, way, heads, so, notes)?;
+            pass_draft(alloc, rest, way, heads, so, notes)?;
             Ok(())
         }
         _ => by_rules(alloc, table, stmt, way, heads, so, notes),
@@ -364,7 +366,7 @@ fn otherwise(
                 notes,
             )?;
             let rest = Rules::Ends(PAST, Kind::Normal);
-            pass_rules(alloc, &rest, way, heads, so, notes)?;
+            pass_rest(alloc, rest, way, heads, so, notes)?;
             Ok(())
         }
     }
@@ -411,7 +413,7 @@ fn block(
         ..ENTRY
     };
     let rest = Rules::Ends(last, Kind::Normal);
-    pass_rules(alloc, &rest, way, heads, so, notes)?;
+    pass_rest(alloc, rest, way, heads, so, notes)?;
     Ok(())
 }
 

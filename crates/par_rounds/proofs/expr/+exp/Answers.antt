@@ -127,8 +127,8 @@ binary-operand-requires-in-Binary t c =
       (k.ready, (k.so_far, (p.0, p.1))),
     )
 
-pub binary-pass_rules-requires-clause-so_far : goal.binary-pass_rules-requires-clause-so_far
-binary-pass_rules-requires-clause-so_far t c =
+pub binary-pass_draft-requires-clause-so_far : goal.binary-pass_draft-requires-clause-so_far
+binary-pass_draft-requires-clause-so_far t c =
     let n = c.args.notes.now in let m = c.operand.new.notes in
     let u = c.in_ok-operand-in-Binary.ensures in let v = c.in_ok-operand-in-Binary-2.ensures in
     let k =
@@ -139,8 +139,8 @@ binary-pass_rules-requires-clause-so_far t c =
     c.operand-in-Binary.new.so m c.operand-in-Binary.new.notes v.took v.head k.ready k.so_far in
     j.so_far
 
-pub binary-pass_rules-requires-clause-rules : goal.binary-pass_rules-requires-clause-rules
-binary-pass_rules-requires-clause-rules t c =
+pub binary-pass_draft-requires-clause-rules : goal.binary-pass_draft-requires-clause-rules
+binary-pass_draft-requires-clause-rules t c =
     let n = c.args.notes.now in let e = c.args.e.now in let d = declares c.args.table.now in
     let b = c.in-Binary in let m = c.operand.new.notes in let o = c.operand-in-Binary.new.notes in
     let u = c.in_ok-operand-in-Binary.ensures in let v = c.in_ok-operand-in-Binary-2.ensures in
@@ -181,9 +181,9 @@ parts-operand-requires-in-Neg t c =
       (c.requires.ready, (c.requires.so_far, (q.0, q.1))),
     )
 
-pub parts-pass_rules-requires-in-Neg-clause-rules
-    : goal.parts-pass_rules-requires-in-Neg-clause-rules
-parts-pass_rules-requires-in-Neg-clause-rules t c =
+pub parts-pass_rest-requires-in-Neg-clause-rules
+    : goal.parts-pass_rest-requires-in-Neg-clause-rules
+parts-pass_rest-requires-in-Neg-clause-rules t c =
     let n = c.args.notes.now in let e = c.args.e.now in let d = declares c.args.table.now in
     let m = c.operand-in-Neg.new.notes in let u = c.in_ok-operand-in-Neg.ensures in
     let q =
@@ -197,8 +197,8 @@ parts-pass_rules-requires-in-Neg-clause-rules t c =
     c.operand-in-Neg.new.so n m u.took u.head c.requires.ready c.requires.so_far in
     subst (ArePassable m.locals (length m.heads.items)) (sym (seen_gives _ _)) (k.rules valued q.2)
 
-pub binary-returns-in_ok-pass_rules-in-Binary : goal.binary-returns-in_ok-pass_rules-in-Binary
-binary-returns-in_ok-pass_rules-in-Binary t c =
+pub binary-returns-in_ok-pass_draft-in-Binary : goal.binary-returns-in_ok-pass_draft-in-Binary
+binary-returns-in_ok-pass_draft-in-Binary t c =
     let n = c.args.notes.now in let e = c.args.e.now in let d = declares c.args.table.now in
     let b = c.in-Binary in let m = c.operand.new.notes in let o = c.operand-in-Binary.new.notes in
     let u = c.in_ok-operand-in-Binary.ensures in let v = c.in_ok-operand-in-Binary-2.ensures in
@@ -209,31 +209,31 @@ binary-returns-in_ok-pass_rules-in-Binary t c =
     let more = Part f Next (exp d (shown y)) rest in
     let h = ways_of c.args.heads.now in let w = seen c.args.way.now in
     part_walks h w Next Entry (exp d (shown x)) (within (exp d (shown e))) more c.args.so.now
-    c.operand.new.so c.pass_rules.new.so.found n m c.pass_rules.new.notes
+    c.operand.new.so c.pass_draft.new.so.found n m c.pass_draft.new.notes
     (sym (ap within (binary_made d e.kind (mark_of e) b.op b.left b.right x y z f _ more rest b.is
     c.deref-in-Binary-2.ensures refl c.second.ensures c.deref-in-Binary.ensures refl
     c.deref.ensures refl)))
     u.head u.took
     (part_walks h w Next f (exp d (shown y)) more rest c.operand.new.so
-    c.operand-in-Binary.new.so c.pass_rules.new.so.found m o c.pass_rules.new.notes refl
+    c.operand-in-Binary.new.so c.pass_draft.new.so.found m o c.pass_draft.new.notes refl
     v.head v.took
-    (subst (λ (k : Rules). GoesOn h k w c.operand-in-Binary.new.so o c.pass_rules.new.so.found
-    c.pass_rules.new.notes) c.in_ok-rest-in-Binary.ensures c.in_ok-pass_rules-in-Binary.ensures))
+    (subst (λ (k : Rules). GoesOn h k w c.operand-in-Binary.new.so o c.pass_draft.new.so.found
+    c.pass_draft.new.notes) c.in_ok-rest-in-Binary.ensures c.in_ok-pass_draft-in-Binary.ensures))
 
-pub parts-returns-in_ok-pass_rules-in-Neg : goal.parts-returns-in_ok-pass_rules-in-Neg
-parts-returns-in_ok-pass_rules-in-Neg t c =
+pub parts-returns-in_ok-pass_rest-in-Neg : goal.parts-returns-in_ok-pass_rest-in-Neg
+parts-returns-in_ok-pass_rest-in-Neg t c =
     let n = c.args.notes.now in let e = c.args.e.now in let d = declares c.args.table.now in
     let m = c.operand-in-Neg.new.notes in let u = c.in_ok-operand-in-Neg.ensures in
     let x = c.deref-in-Neg.result.now in
     let h = ways_of c.args.heads.now in let w = seen c.args.way.now in
-    let to = c.pass_rules-in-Neg.new in
+    let to = c.pass_rest-in-Neg.new in
     part_walks h w Next Entry (exp d (shown x)) (within (exp d (shown e))) valued c.args.so.now
     c.operand-in-Neg.new.so to.so.found n m to.notes
     (sym (ap within (unary_made d e.kind (mark_of e) c.in-Neg.of x _ valued c.in-Neg.is refl
     c.deref-in-Neg.ensures refl)))
     u.head u.took
     (subst (λ (k : Rules). GoesOn h k w c.operand-in-Neg.new.so m to.so.found to.notes)
-    (seen_gives _ _) c.in_ok-pass_rules-in-Neg.ensures)
+    (seen_gives _ _) c.in_ok-pass_rest-in-Neg.ensures)
 
 pub parts-operand-requires-in-Output : goal.parts-operand-requires-in-Output
 parts-operand-requires-in-Output t c =
@@ -248,9 +248,9 @@ parts-operand-requires-in-Output t c =
       (c.requires.ready, (c.requires.so_far, (q.0, q.1))),
     )
 
-pub parts-pass_rules-requires-in-Output-clause-rules
-    : goal.parts-pass_rules-requires-in-Output-clause-rules
-parts-pass_rules-requires-in-Output-clause-rules t c =
+pub parts-pass_rest-requires-clause-rules
+    : goal.parts-pass_rest-requires-clause-rules
+parts-pass_rest-requires-clause-rules t c =
     let n = c.args.notes.now in let e = c.args.e.now in let d = declares c.args.table.now in
     let b = c.in-Output in let x = c.deref-in-Output.result.now in
     let m = c.operand-in-Output.new.notes in let u = c.in_ok-operand-in-Output.ensures in
@@ -261,19 +261,19 @@ parts-pass_rules-requires-in-Output-clause-rules t c =
     (goes_on past Done) b.is refl c.deref-in-Output.ensures refl))) u.took u.head
     c.requires.ready c.requires.so_far c.requires.rules)
 
-pub parts-returns-in_ok-pass_rules-in-Output : goal.parts-returns-in_ok-pass_rules-in-Output
-parts-returns-in_ok-pass_rules-in-Output t c =
+pub parts-returns-in_ok-pass_rest-in-Output : goal.parts-returns-in_ok-pass_rest-in-Output
+parts-returns-in_ok-pass_rest-in-Output t c =
     let n = c.args.notes.now in let e = c.args.e.now in let d = declares c.args.table.now in
     let b = c.in-Output in let x = c.deref-in-Output.result.now in
     let m = c.operand-in-Output.new.notes in let u = c.in_ok-operand-in-Output.ensures in
     let h = ways_of c.args.heads.now in let w = seen c.args.way.now in
-    let to = c.pass_rules-in-Output.new in
+    let to = c.pass_rest.new in
     part_walks h w Next Entry (exp d (shown x)) (within (exp d (shown e))) _ c.args.so.now
     c.operand-in-Output.new.so to.so.found n m to.notes
     (sym (ap within (output_made d e.kind (mark_of e) b.field-0 b.field-1 b.value x _
     (goes_on past Done) b.is refl c.deref-in-Output.ensures refl))) u.head u.took
     (subst (λ (k : Rules). GoesOn h k w c.operand-in-Output.new.so m to.so.found to.notes)
-    (seen_ends _ _) c.in_ok-pass_rules-in-Output.ensures)
+    (seen_ends _ _) c.in_ok-pass_rest-in-Output.ensures)
 
 pub parts-operand-requires : goal.parts-operand-requires
 parts-operand-requires t c =
@@ -290,9 +290,9 @@ parts-operand-requires t c =
       (c.requires.ready, (c.requires.so_far, (q.0, q.1))),
     )
 
-pub parts-pass_rules-requires-clause-rules
-    : goal.parts-pass_rules-requires-clause-rules
-parts-pass_rules-requires-clause-rules t c =
+pub parts-pass_draft-requires-clause-rules
+    : goal.parts-pass_draft-requires-clause-rules
+parts-pass_draft-requires-clause-rules t c =
     let n = c.args.notes.now in let e = c.args.e.now in let d = declares c.args.table.now in
     let b = c.in-Field in let x = c.deref.result.now in
     let m = c.operand.new.notes in let u = c.in_ok-operand-in-Field.ensures in
@@ -305,13 +305,13 @@ parts-pass_rules-requires-clause-rules t c =
     c.deref-in-Field.ensures refl c.deref.ensures refl))) u.took u.head
     c.requires.ready c.requires.so_far c.requires.rules)
 
-pub parts-returns-in_ok-pass_rules-in-Field : goal.parts-returns-in_ok-pass_rules-in-Field
-parts-returns-in_ok-pass_rules-in-Field t c =
+pub parts-returns-in_ok-pass_draft-in-Field : goal.parts-returns-in_ok-pass_draft-in-Field
+parts-returns-in_ok-pass_draft-in-Field t c =
     let n = c.args.notes.now in let e = c.args.e.now in let d = declares c.args.table.now in
     let b = c.in-Field in let x = c.deref.result.now in
     let m = c.operand.new.notes in let u = c.in_ok-operand-in-Field.ensures in
     let h = ways_of c.args.heads.now in let w = seen c.args.way.now in
-    let to = c.pass_rules.new in
+    let to = c.pass_draft.new in
     part_walks h w Next Entry (exp d (shown x)) (within (exp d (shown e))) _ c.args.so.now
     c.operand.new.so to.so.found n m to.notes
     (sym (ap within (field_made d e.kind (mark_of e) b.of b.class b.field c.field.result x
@@ -319,7 +319,7 @@ parts-returns-in_ok-pass_rules-in-Field t c =
     (selected (shown c.deref-in-Field.result.now) c.field.result) b.is c.field.ensures
     c.deref-in-Field.ensures refl c.deref.ensures refl))) u.head u.took
     (subst (λ (k : Rules). GoesOn h k w c.operand.new.so m to.so.found to.notes)
-    c.in_ok-rest-in-Field.ensures c.in_ok-pass_rules-in-Field.ensures)
+    c.in_ok-rest-in-Field.ensures c.in_ok-pass_draft-in-Field.ensures)
 
 pub receiver-returns-in-None : goal.receiver-returns-in-None
 receiver-returns-in-None t c =
@@ -443,16 +443,16 @@ call-args-requires t c =
       ),
     )
 
-pub call-pass_rules-requires-clause-ready : goal.call-pass_rules-requires-clause-ready
-call-pass_rules-requires-clause-ready t c =
+pub call-pass_draft-requires-clause-ready : goal.call-pass_draft-requires-clause-ready
+call-pass_draft-requires-clause-ready t c =
     c.in_ok-args-in-Call.ensures.ready
 
-pub call-pass_rules-requires-clause-so_far : goal.call-pass_rules-requires-clause-so_far
-call-pass_rules-requires-clause-so_far t c =
+pub call-pass_draft-requires-clause-so_far : goal.call-pass_draft-requires-clause-so_far
+call-pass_draft-requires-clause-so_far t c =
     c.in_ok-args-in-Call.ensures.so_far
 
-pub call-pass_rules-requires-clause-rules : goal.call-pass_rules-requires-clause-rules
-call-pass_rules-requires-clause-rules t c =
+pub call-pass_draft-requires-clause-rules : goal.call-pass_draft-requires-clause-rules
+call-pass_draft-requires-clause-rules t c =
     let n = c.args.notes.now in let e = c.args.e.now in let d = declares c.args.table.now in
     let b = c.in-Call in let o = receiver b.of in
     let es = all_shown c.as_slice-arguments.result.now in
@@ -471,8 +471,8 @@ call-pass_rules-requires-clause-rules t c =
     subst (ArePassable m.locals (length m.heads.items)) (sym c.in_ok-rest-in-Call.ensures)
     (j.rules last (k.rules last y))
 
-pub call-returns-in_ok-pass_rules-in-Call : goal.call-returns-in_ok-pass_rules-in-Call
-call-returns-in_ok-pass_rules-in-Call t c =
+pub call-returns-in_ok-pass_draft-in-Call : goal.call-returns-in_ok-pass_draft-in-Call
+call-returns-in_ok-pass_draft-in-Call t c =
     let e = c.args.e.now in let d = declares c.args.table.now in
     let b = c.in-Call in let o = receiver b.of in
     let es = all_shown c.as_slice-arguments.result.now in
@@ -480,7 +480,7 @@ call-returns-in_ok-pass_rules-in-Call t c =
     let f = seen_start c.call_start.result in
     let most = args d f es last in
     let h = ways_of c.args.heads.now in let w = seen c.args.way.now in
-    let to = c.pass_rules.new in
+    let to = c.pass_draft.new in
     subst (λ (k : Rules). GoesOn h k w c.args.so.now c.args.notes.now to.so.found to.notes)
     (ap within (call_made d e.kind (mark_of e) b.class b.method b.of b.arguments
     c.as_slice-arguments.result.now _ most last f b.is c.as_slice-arguments.ensures refl
@@ -488,4 +488,4 @@ call-returns-in_ok-pass_rules-in-Call t c =
     (c.in_ok-receiver-in-Call.ensures.goes most to.so.found to.notes
     (c.in_ok-args-in-Call.ensures.goes last to.so.found to.notes
     (subst (λ (k : Rules). GoesOn h k w c.args-in-Call.new.so c.args-in-Call.new.notes to.so.found
-    to.notes) c.in_ok-rest-in-Call.ensures c.in_ok-pass_rules-in-Call.ensures)))
+    to.notes) c.in_ok-rest-in-Call.ensures c.in_ok-pass_draft-in-Call.ensures)))

@@ -171,8 +171,8 @@ block-loop-place-preserved t c =
     c.step.new.so c.step.new.notes (search rules) (search rules) c.start_at.ensures
     c.loop-place.invariant c.in_ok-step.ensures.head c.in_ok-step.ensures.took
 
-pub block-pass_rules-requires-clause-rules : goal.block-pass_rules-requires-clause-rules
-block-pass_rules-requires-clause-rules t c =
+pub block-pass_rest-requires-clause-rules : goal.block-pass_rest-requires-clause-rules
+block-pass_rest-requires-clause-rules t c =
     let n = c.loop-place.notes in
     subst (ArePassable n.locals (length n.heads.items))
     (sym (seen_ends _ _ ∙ stas_end (declares c.args.table.now) c.args.stmts.now c.loop-place.place
@@ -181,13 +181,13 @@ block-pass_rules-requires-clause-rules t c =
 
 pub block-returns : goal.block-returns
 block-returns t c =
-    let to = c.pass_rules.new in
+    let to = c.pass_rest.new in
     let h = ways_of c.args.heads.now in let w = seen c.args.way.now in
     c.loop-place.invariant.goes to.so.found to.notes
     (subst (λ (k : Rules). GoesOn h k w c.loop-place.so c.loop-place.notes to.so.found to.notes)
     (seen_ends _ _ ∙ stas_end (declares c.args.table.now) c.args.stmts.now c.loop-place.place
     (seen_start c.start_at-2.result) (omega arith) c.start_at-2.ensures)
-    c.in_ok-pass_rules.ensures)
+    c.in_ok-pass_rest.ensures)
 
 pub sta-returns : goal.sta-returns
 sta-returns t c =
@@ -381,8 +381,8 @@ otherwise-step-requires t c =
       (c.requires.ready, (c.requires.so_far, (q.0, q.1))),
     )
 
-pub otherwise-pass_rules-requires-clause-rules : goal.otherwise-pass_rules-requires-clause-rules
-otherwise-pass_rules-requires-clause-rules t c =
+pub otherwise-pass_rest-requires-clause-rules : goal.otherwise-pass_rest-requires-clause-rules
+otherwise-pass_rest-requires-clause-rules t c =
     let n = c.args.notes.now in let d = declares c.args.table.now in
     let from = seen_origin c.args.from.now in let x = c.deref.result.now in
     let m = c.step.new.notes in let u = c.in_ok-step-in-Some.ensures in
@@ -402,19 +402,19 @@ otherwise-returns-in-None t c =
     (none_else d c.args.other.now (seen_origin c.args.from.now) c.in-None.is)
     (λ m e. subst (λ k. AreWide k c.args.so.now.found.exits.items) e c.requires.so_far.exits)
 
-pub otherwise-returns-in_ok-pass_rules-in-Some : goal.otherwise-returns-in_ok-pass_rules-in-Some
-otherwise-returns-in_ok-pass_rules-in-Some t c =
+pub otherwise-returns-in_ok-pass_rest-in-Some : goal.otherwise-returns-in_ok-pass_rest-in-Some
+otherwise-returns-in_ok-pass_rest-in-Some t c =
     let n = c.args.notes.now in let d = declares c.args.table.now in
     let from = seen_origin c.args.from.now in let x = c.deref.result.now in
     let m = c.step.new.notes in let u = c.in_ok-step-in-Some.ensures in
     let h = ways_of c.args.heads.now in let w = seen c.args.way.now in
-    let to = c.pass_rules.new in
+    let to = c.pass_rest.new in
     part_walks h w Next from (sta d (does x)) (else_rules d (otherwise c.args.other.now) from)
     (goes_on past Done) c.args.so.now c.step.new.so to.so.found n m to.notes
     (some_else d c.args.other.now c.in-Some.stmt x from c.in-Some.is c.deref.ensures)
     u.head u.took
     (subst (λ (k : Rules). GoesOn h k w c.step.new.so m to.so.found to.notes) (seen_ends _ _)
-    c.in_ok-pass_rules-in-Some.ensures)
+    c.in_ok-pass_rest-in-Some.ensures)
 
 pub repeat-loop_test-requires-clause-node : goal.repeat-loop_test-requires-clause-node
 repeat-loop_test-requires-clause-node t c =
@@ -534,8 +534,8 @@ repeat-step-requires t c =
       ),
     )
 
-pub repeat-pass_rules-requires-clause-ready : goal.repeat-pass_rules-requires-clause-ready
-repeat-pass_rules-requires-clause-ready t c =
+pub repeat-pass_draft-requires-clause-ready : goal.repeat-pass_draft-requires-clause-ready
+repeat-pass_draft-requires-clause-ready t c =
     let n = c.args.notes.now in let s = c.args.stmt.now in let d = declares c.args.table.now in
     let b = c.in-While in let v = c.args.way.now in let hs = c.args.heads.now in
     let q =
@@ -561,8 +561,8 @@ repeat-pass_rules-requires-clause-ready t c =
     j.ready j.so_far in
     a.ready
 
-pub repeat-pass_rules-requires-clause-so_far : goal.repeat-pass_rules-requires-clause-so_far
-repeat-pass_rules-requires-clause-so_far t c =
+pub repeat-pass_draft-requires-clause-so_far : goal.repeat-pass_draft-requires-clause-so_far
+repeat-pass_draft-requires-clause-so_far t c =
     let n = c.args.notes.now in let s = c.args.stmt.now in let d = declares c.args.table.now in
     let b = c.in-While in let v = c.args.way.now in let hs = c.args.heads.now in
     let q =
@@ -588,8 +588,8 @@ repeat-pass_rules-requires-clause-so_far t c =
     j.ready j.so_far in
     a.so_far
 
-pub repeat-pass_rules-requires-clause-rules : goal.repeat-pass_rules-requires-clause-rules
-repeat-pass_rules-requires-clause-rules t c =
+pub repeat-pass_draft-requires-clause-rules : goal.repeat-pass_draft-requires-clause-rules
+repeat-pass_draft-requires-clause-rules t c =
     let n = c.args.notes.now in let s = c.args.stmt.now in let d = declares c.args.table.now in
     let b = c.in-While in let v = c.args.way.now in let hs = c.args.heads.now in
     let q =
@@ -616,15 +616,15 @@ repeat-pass_rules-requires-clause-rules t c =
     subst (ArePassable o.locals (length o.heads.items)) (sym c.in_ok-rest-in-While.ensures)
     (a.rules again (i.rules again (k.rules again q.rest)))
 
-pub repeat-returns-in_ok-pass_rules-in-While : goal.repeat-returns-in_ok-pass_rules-in-While
-repeat-returns-in_ok-pass_rules-in-While t c =
+pub repeat-returns-in_ok-pass_draft-in-While : goal.repeat-returns-in_ok-pass_draft-in-While
+repeat-returns-in_ok-pass_draft-in-While t c =
     let n = c.args.notes.now in let s = c.args.stmt.now in let d = declares c.args.table.now in
     let b = c.in-While in let m = c.loop_test.new.notes in let f = c.flow.new.notes in
     let o = c.step.new.notes in
     let u = c.in_ok-loop_test-in-While.ensures in let g = u.took in
     let x = c.in_ok-unless-in-While.ensures in let y = c.in_ok-step-in-While.ensures in
     let h = ways_of c.args.heads.now in let w = seen c.args.way.now in
-    let to = c.pass_rules.new in
+    let to = c.pass_draft.new in
     let block = sta d (does c.deref.result.now) in
     let part = Part tested Loop block again in
     let more = if_not (is_forever (shown b.test)) (goes_on past) part in
@@ -642,4 +642,4 @@ repeat-returns-in_ok-pass_rules-in-While t c =
     (part_walks h w Loop tested block part again c.unless.new.so c.step.new.so
     to.so.found f o to.notes refl y.head y.took
     (subst (λ (k : Rules). GoesOn h k w c.step.new.so o to.so.found to.notes)
-    c.in_ok-rest-in-While.ensures c.in_ok-pass_rules-in-While.ensures)))))
+    c.in_ok-rest-in-While.ensures c.in_ok-pass_draft-in-While.ensures)))))

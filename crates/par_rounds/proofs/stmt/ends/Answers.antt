@@ -27,8 +27,8 @@ operand-requires-clause-node c =
     (part_needs n.locals (length n.heads.items) (Part Entry Next x rest) Entry Next x rest refl
     c.requires.rules).1
 
-pub pass_rules-requires-clause-rules : goal.pass_rules-requires-clause-rules
-pass_rules-requires-clause-rules c =
+pub pass_rest-requires-clause-rules : goal.pass_rest-requires-clause-rules
+pass_rest-requires-clause-rules c =
     let n = c.args.notes.now in let x = exp (declares c.args.table.now) (shown c.args.value.now) in
     let rest = goes_on (assigned c.args.assigned past) Done in
     let m = c.operand.new.notes in let u = c.in_ok-operand.ensures in
@@ -43,8 +43,8 @@ returns c =
     let rest = goes_on (assigned c.args.assigned past) Done in
     let m = c.operand.new.notes in let u = c.in_ok-operand.ensures in
     let h = ways_of c.args.heads.now in let w = seen c.args.way.now in
-    let to = c.pass_rules.new in
+    let to = c.pass_rest.new in
     part_walks h w Next Entry x (Part Entry Next x rest) rest c.args.so.now c.operand.new.so
     to.so.found n m to.notes refl u.head u.took
     (subst (λ (k : Rules). GoesOn h k w c.operand.new.so m to.so.found to.notes) (seen_ends _ _)
-    c.in_ok-pass_rules.ensures)
+    c.in_ok-pass_rest.ensures)
