@@ -1,5 +1,7 @@
 -- Which values stand for what is read of statements.
 use Rattle.std.specs.Prelude.{◌≡◌, false, List, [], ◌∷◌, Option, Some, None, Result, Ok, Err}
+use Rattle.std.specs.Borrow.{Bor}
+use Rattle.par_lexer.specs.declared.token.Token.{Token}
 use Rattle.par_lexer.specs.declared.word.TheConstants as word
 use Rattle.par_lexer.specs.declared.sign.TheConstants as sign
 use Rattle.par_grammar.specs.declared.sort.Sort.{Sort}
@@ -15,8 +17,11 @@ use Rattle.par_tree.specs.Plain.{Else, Sta}
 use Rattle.par_tree.specs.Plain as plain
 use Rattle.par_tree.specs.Shown.{may_shown, does, all_do, all_catch}
 use Rattle.par_tree.specs.Shown as tree
-use Rattle.par_tree.specs.Values.{Values, may, braces, may_braces, sta, stas, other}
+use Rattle.par_tree.specs.Values.{Values, tok, may, braces, may_braces, sta, stas, other}
 use Rattle.par_tree.specs.Values.{handler, catches}
+
+abbrev pub a_token : Bor Token → Values
+a_token x = tok x.now ∷ []
 
 abbrev pub a_block : Block → Values
 a_block b = braces (tree.braces b) ∷ []

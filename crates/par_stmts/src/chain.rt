@@ -1,6 +1,6 @@
 //! Statements that begin with a name or with `this`: locals of a class, assignments and calls.
 
-ghost use Rattle.std.specs.Prelude.{◌≡◌, ◌<◌, ◌≤◌, [], ◌∷◌, length, OnOk};
+ghost use Rattle.std.specs.Prelude.{◌≡◌, ◌<◌, ◌≤◌, [], ◌∷◌, length, OnOk, IfOk};
 ghost use Rattle.par_grammar.specs.Grammar as symbol;
 ghost use Rattle.par_grammar.specs.declared.sort.Sort.TheVariants as sort;
 ghost use Rattle.par_lexer.specs.declared.sign.TheConstants as signs;
@@ -10,10 +10,11 @@ ghost use Rattle.par_tree.specs.Grammar as g;
 ghost use Rattle.par_tree.specs.Shown.{shown};
 ghost use Rattle.par_tree.specs.Values.{tok, exp};
 ghost use Rattle.par_policy_reader.specs.par_language_laws.Reads.{Reads};
-ghost use Rattle.par_stmts.specs.Reads.{a_stmt};
+ghost use Rattle.par_stmts.specs.Reads.{a_stmt, a_token};
 
+use crate::head::expr_before;
 use crate::make;
-use par_exprs::expr::{call, call_on, expr, this};
+use par_exprs::expr::{call, call_on, this};
 use par_exprs::make::{selected, variable};
 use par_grammar::sort::Sort;
 use par_lexer::sign;
@@ -75,8 +76,7 @@ fn class_local(
 {
     let name = cursor.keep(Sort::Name)?;
     cursor.take(Sort::Sign(sign::ASSIGN))?;
-    let value = expr(alloc, cursor)?;
-    cursor.take(Sort::Sign(sign::SEMICOLON))?;
+    let value = expr_before(alloc, cursor, Sort::Sign(sign::SEMICOLON))?;
     make::class_local(alloc, class, name, value)
 }
 
@@ -152,6 +152,18 @@ fn after_this(alloc: Global, cursor: &mut Cursor<'_, Paragon>, of: Expr) -> Resu
     }
 }
 
+/// The name of a member, with the dot before it.
+fn member_name<'a>(cursor: &mut Cursor<'a, Paragon>) -> Result<&'a Token, ParseError>
+    ensures read { Reads (symbol.counts ∷ g.sign_ signs.DOT ∷ g.ident ∷ []) [] a_token
+        (input cursor.old) result (input cursor.new) }
+    ensures sort { IfOk result (λ token. IsOf sort.Name token.now) }
+    ensures shorter { OnOk result (length cursor.new.left.now < length cursor.old.left.now) }
+{
+    cursor.count()?;
+    cursor.take(Sort::Sign(sign::DOT))?;
+    cursor.keep(Sort::Name)
+}
+
 /// A member, and what follows it.
 #[cycle(chain)]
 fn member(alloc: Global, cursor: &mut Cursor<'_, Paragon>, of: Expr) -> Result<Stmt, ParseError>
@@ -160,9 +172,7 @@ fn member(alloc: Global, cursor: &mut Cursor<'_, Paragon>, of: Expr) -> Result<S
         (exp (shown of) ∷ []) a_stmt (input cursor.old) result (input cursor.new) }
     ensures shorter { OnOk result (length cursor.new.left.now < length cursor.old.left.now) }
 {
-    cursor.count()?;
-    cursor.take(Sort::Sign(sign::DOT))?;
-    let name = cursor.keep(Sort::Name)?;
+    let name = member_name(cursor)?;
     chain(alloc, cursor, of, name)
 }
 
@@ -285,7 +295,6 @@ fn assigned(
     ensures shorter { OnOk result (length cursor.new.left.now < length cursor.old.left.now) }
 {
     let _sign = cursor.keep(Sort::Sign(sign::ASSIGN))?;
-    let value = expr(alloc, cursor)?;
-    cursor.take(Sort::Sign(sign::SEMICOLON))?;
+    let value = expr_before(alloc, cursor, Sort::Sign(sign::SEMICOLON))?;
     Ok(make::assignment(target, value))
 }

@@ -1,4 +1,4 @@
-//! What stands in parentheses behind `if`, `while` and `when`.
+//! An expression before a sign, and what stands in parentheses behind `if`, `while` and `when`.
 
 ghost use Rattle.std.specs.Prelude.{◌≡◌, ◌<◌, ◌≤◌, [], ◌∷◌, length, OnOk};
 ghost use Rattle.par_grammar.specs.Grammar as symbol;
@@ -20,6 +20,21 @@ use par_tree::expr::Expr;
 use par_tree::policy::LockTree;
 use std::alloc::Global;
 
+/// An expression before a token of this sort, which is taken.
+pub fn expr_before(
+    alloc: Global,
+    cursor: &mut Cursor<'_, Paragon>,
+    end: Sort,
+) -> Result<Expr, ParseError>
+    ensures read { Reads (g.expr ∷ symbol.token end ∷ []) [] tree
+        (input cursor.old) result (input cursor.new) }
+    ensures shorter { OnOk result (length cursor.new.left.now < length cursor.old.left.now) }
+{
+    let value = expr(alloc, cursor)?;
+    cursor.take(end)?;
+    Ok(value)
+}
+
 /// A test in parentheses, which do not count.
 pub fn test_in_parens(alloc: Global, cursor: &mut Cursor<'_, Paragon>) -> Result<Expr, ParseError>
     ensures read { Reads
@@ -29,9 +44,7 @@ pub fn test_in_parens(alloc: Global, cursor: &mut Cursor<'_, Paragon>) -> Result
 {
     cursor.take(Sort::Sign(sign::LEFT_PAREN))?;
     cursor.restart();
-    let test = expr(alloc, cursor)?;
-    cursor.take(Sort::Sign(sign::RIGHT_PAREN))?;
-    Ok(test)
+    expr_before(alloc, cursor, Sort::Sign(sign::RIGHT_PAREN))
 }
 
 /// A lock in parentheses, which do not count.

@@ -10,8 +10,8 @@ ghost use Rattle.par_policy_reader.specs.par_language_laws.Reads.{Reads};
 ghost use Rattle.par_exprs.specs.Exprs.{tree};
 ghost use Rattle.par_stmts.specs.Reads.{a_stmt};
 
+use crate::head::expr_before;
 use crate::make;
-use par_exprs::expr::expr;
 use par_grammar::sort::Sort;
 use par_lexer::sign;
 use par_policy_reader::par_language_laws::Paragon;
@@ -75,9 +75,7 @@ fn first_value(alloc: Global, cursor: &mut Cursor<'_, Paragon>) -> Result<Expr, 
 {
     cursor.take(Sort::Sign(sign::ASSIGN))?;
     cursor.restart();
-    let value = expr(alloc, cursor)?;
-    cursor.take(Sort::Sign(sign::SEMICOLON))?;
-    Ok(value)
+    expr_before(alloc, cursor, Sort::Sign(sign::SEMICOLON))
 }
 
 /// The name of a local, and its first value.
