@@ -67,12 +67,22 @@ fn erase_head(alloc: Global, method: &MethodInfo) -> Result<Head, NoMemory>
     })
 }
 
-fn erase_method(alloc: Global, method: &MethodInfo, body: PStmt) -> Result<PlainMethod, NoMemory>
+// The method to which the body at this place belongs.
+fn erase_method(
+    alloc: Global,
+    table: &Table,
+    asked: &Lockset,
+    method: &MethodInfo,
+    all: &[TBody],
+    place: usize,
+) -> Result<PlainMethod, NoMemory>
     ensures info { IfOk result (λ m. method_info m ≡ erased_method method.now) }
     ensures named { IfOk result (λ m. IsName m.name) }
-    ensures body { IfOk result (λ m. m.body ≡ body) }
+    ensures body { IfOk result (λ m. does (inputs_in table.now) m.body
+        ≡ first_body table.now (has asked.now) (bodies (drop place all.now))) }
 {
     let head = erase_head(alloc, method)?;
+    let body = erase_body(alloc, table, asked, all, place)?;
     Ok(PlainMethod {
         name: head.name,
         is_static: method.is_static,
@@ -99,8 +109,7 @@ fn erase_methods(
 {
     let mut found = List::new(alloc);
     for (place, method) in methods.iter().enumerate() {
-        let body = erase_body(alloc, table, asked, all, place)?;
-        let method = erase_method(alloc, method, body)?;
+        let method = erase_method(alloc, table, asked, method, all, place)?;
         found.push(method)?;
     }
     Ok(found)

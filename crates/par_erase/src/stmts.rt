@@ -55,14 +55,14 @@ pub fn erase_stmt(
             Ok(PStmt::Block(stmts))
         }
         TStmtKind::If(test, body, other) => {
-            let test = erase_expr(alloc, table, test)?;
             let body = erase_boxed(alloc, table, asked, body)?;
             let other = erase_else(alloc, table, asked, other)?;
+            let test = erase_expr(alloc, table, test)?;
             Ok(PStmt::If(test, body, other))
         }
         TStmtKind::While(test, body) => {
-            let test = erase_expr(alloc, table, test)?;
             let body = erase_boxed(alloc, table, asked, body)?;
+            let test = erase_expr(alloc, table, test)?;
             Ok(PStmt::While(test, body))
         }
         TStmtKind::Try(body, catches) => {

@@ -1,4 +1,4 @@
-use Rattle.std.proofs.Common.{map, drop, ap, ◌∙◌}
+use Rattle.std.proofs.Common.{map, drop}
 use Rattle.par_base.specs.Names.{IsName}
 use Rattle.par_typed.specs.par_policy.Numbers.{has}
 use Rattle.par_typed.specs.Shown.{bodies}
@@ -22,7 +22,7 @@ loop-place-preserved c = record {
       c.args.methods.now c.args.all.now c.loop-place.place c.index-methods-place.result
       c.loop-place.found c.push.new.self c.in_ok-method.method c.in_ok-push.ensures.ok
       c.loop-place-test.true c.index-methods-place.is
-      (ap (does (inputs_in c.args.table.now)) c.in_ok-method.ensures.body ∙ c.in_ok-body.ensures)
+      c.in_ok-method.ensures.body
       c.loop-place.invariant.bodies;
   named =
       named_step method_info (λ m. IsName m.name) c.loop-place.found c.push.new.self
