@@ -144,6 +144,22 @@ fn check_names(
     check_mains(alloc, program, findings)
 }
 
+// The first broken rule on names of a program, of which all this is declared.
+fn first_noted(
+    alloc: Global,
+    builtins: &[ClassDecl],
+    all: &Declared<'_>,
+    program: &Program,
+) -> Result<Option<Refusal>, NoMemory>
+    requires builtins { map class_of builtins.now ≡ names.builtins }
+    requires shown { ShowsProgram names.builtins (source program.now) all.now }
+    ensures { IfOk result (λ first. first ≡ first_of None (name_faults (source program.now))) }
+{
+    let mut findings = Findings::new();
+    check_names(alloc, builtins, all, program, &mut findings)?;
+    Ok(findings.first())
+}
+
 fn first_broken(
     alloc: Global,
     builtins: &[ClassDecl],
@@ -153,9 +169,9 @@ fn first_broken(
     ensures { IfOk result (λ first. first ≡ first_of None (name_faults (source program.now))) }
 {
     let all = Declared::of(alloc, builtins, program)?;
-    let mut findings = Findings::new();
-    check_names(alloc, builtins, &all, program, &mut findings)?;
-    Ok(findings.first())
+    let first = first_noted(alloc, builtins, &all, program);
+    drop(all);
+    first
 }
 
 /// The first broken rule on names of a program.
