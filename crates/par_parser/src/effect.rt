@@ -98,7 +98,7 @@ fn more_effects(
 {
     'more: loop {
         match mark_of(cursor.peek()) {
-            Some(mark) => found = effect(alloc, cursor, mark, found)?,
+            Some(mark) => effect(alloc, cursor, mark, &mut found)?,
             None => return Ok(found),
         }
     }
@@ -108,9 +108,9 @@ fn effect(
     alloc: Global,
     cursor: &mut Cursor<'_, Paragon>,
     mark: Mark,
-    found: Effects,
-) -> Result<Effects, ParseError>
-    ensures read { Reads (part mark) (the_effects found) the_effects
+    found: &mut Effects,
+) -> Result<(), ParseError>
+    ensures read { Reads (part mark) (the_effects found.old) (λ _. the_effects found.new)
         (input cursor.old) result (input cursor.new) }
     ensures shorter { OnOk result (length cursor.new.left.now < length cursor.old.left.now) }
 {
@@ -127,82 +127,87 @@ fn effect(
 fn write(
     alloc: Global,
     cursor: &mut Cursor<'_, Paragon>,
-    mut found: Effects,
-) -> Result<Effects, ParseError>
+    found: &mut Effects,
+) -> Result<(), ParseError>
     ensures read { Reads
         (symbol.token (sort.Sign signs.BANG) ∷ symbol.name g.Policy
         ∷ symbol.builds g.NextWrite ∷ [])
-        (the_effects found) the_effects (input cursor.old) result (input cursor.new) }
+        (the_effects found.old) (λ _. the_effects found.new)
+        (input cursor.old) result (input cursor.new) }
     ensures shorter { OnOk result (length cursor.new.left.now < length cursor.old.left.now) }
 {
     cursor.take(Sort::Sign(sign::BANG))?;
     let policy = policy(alloc, cursor)?;
     found.writes.push(policy)?;
-    Ok(found)
+    Ok(())
 }
 
 #[tactic(auto, using(par_tree::proofs::Rules::run_built))]
 fn expect(
     alloc: Global,
     cursor: &mut Cursor<'_, Paragon>,
-    mut found: Effects,
-) -> Result<Effects, ParseError>
+    found: &mut Effects,
+) -> Result<(), ParseError>
     ensures read { Reads
         (symbol.token (sort.Sign signs.TILDE) ∷ symbol.name g.Lock
         ∷ symbol.builds g.NextExpect ∷ [])
-        (the_effects found) the_effects (input cursor.old) result (input cursor.new) }
+        (the_effects found.old) (λ _. the_effects found.new)
+        (input cursor.old) result (input cursor.new) }
     ensures shorter { OnOk result (length cursor.new.left.now < length cursor.old.left.now) }
 {
     cursor.take(Sort::Sign(sign::TILDE))?;
     let lock = lock(alloc, cursor)?;
     found.expects.push(lock)?;
-    Ok(found)
+    Ok(())
 }
 
 #[tactic(auto, using(par_tree::proofs::Rules::run_built))]
 fn open(
     alloc: Global,
     cursor: &mut Cursor<'_, Paragon>,
-    mut found: Effects,
-) -> Result<Effects, ParseError>
+    found: &mut Effects,
+) -> Result<(), ParseError>
     ensures read { Reads
         (symbol.token (sort.Sign signs.PLUS) ∷ symbol.name g.Lock ∷ symbol.builds g.NextOpen ∷ [])
-        (the_effects found) the_effects (input cursor.old) result (input cursor.new) }
+        (the_effects found.old) (λ _. the_effects found.new)
+        (input cursor.old) result (input cursor.new) }
     ensures shorter { OnOk result (length cursor.new.left.now < length cursor.old.left.now) }
 {
     cursor.take(Sort::Sign(sign::PLUS))?;
     let lock = lock(alloc, cursor)?;
     found.opens.push(lock)?;
-    Ok(found)
+    Ok(())
 }
 
 #[tactic(auto, using(par_tree::proofs::Rules::run_built))]
 fn close(
     alloc: Global,
     cursor: &mut Cursor<'_, Paragon>,
-    mut found: Effects,
-) -> Result<Effects, ParseError>
+    found: &mut Effects,
+) -> Result<(), ParseError>
     ensures read { Reads
         (symbol.token (sort.Sign signs.MINUS) ∷ symbol.name g.Lock ∷ symbol.builds g.NextClose ∷ [])
-        (the_effects found) the_effects (input cursor.old) result (input cursor.new) }
+        (the_effects found.old) (λ _. the_effects found.new)
+        (input cursor.old) result (input cursor.new) }
     ensures shorter { OnOk result (length cursor.new.left.now < length cursor.old.left.now) }
 {
     cursor.take(Sort::Sign(sign::MINUS))?;
     let lock = lock(alloc, cursor)?;
     found.closes.push(lock)?;
-    Ok(found)
+    Ok(())
 }
 
 #[tactic(auto, using(par_tree::proofs::Rules::run_built))]
 fn throw(
     alloc: Global,
     cursor: &mut Cursor<'_, Paragon>,
-    mut found: Effects,
-) -> Result<Effects, ParseError>
+    found: &mut Effects,
+) -> Result<(), ParseError>
     ensures read { Reads
         (symbol.token (sort.Word words.THROWS) ∷ symbol.kept sort.Name ∷ symbol.name g.Policy
         ∷ symbol.builds g.NextThrow ∷ [])
-        (the_effects found) the_effects (input cursor.old) result (input cursor.new) }
+        (the_effects found.old) (λ _. the_effects found.new)
+        (input cursor.old) result (input cursor.new) }
     ensures shorter { OnOk result (length cursor.new.left.now < length cursor.old.left.now) }
 {
     cursor.take(Sort::Word(word::THROWS))?;
@@ -210,5 +215,5 @@ fn throw(
     let policy = policy(alloc, cursor)?;
     let class = ident(alloc, name)?;
     found.throws.push(ThrowDecl { class, policy })?;
-    Ok(found)
+    Ok(())
 }

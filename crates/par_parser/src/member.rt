@@ -81,7 +81,7 @@ fn more_members(
     ensures shorter { OnOk result (length cursor.new.left.now ≤ length cursor.old.left.now) }
 {
     'more: while !cursor.sees(Sort::Sign(sign::RIGHT_BRACE)) {
-        found = member(alloc, cursor, found)?;
+        member(alloc, cursor, &mut found)?;
     }
     Ok(found)
 }
@@ -89,9 +89,10 @@ fn more_members(
 fn member(
     alloc: Global,
     cursor: &mut Cursor<'_, Paragon>,
-    found: Members,
-) -> Result<Members, ParseError>
-    ensures read { Reads (symbol.name g.Member ∷ []) (the_members found) the_members
+    found: &mut Members,
+) -> Result<(), ParseError>
+    ensures read { Reads (symbol.name g.Member ∷ [])
+        (the_members found.old) (λ _. the_members found.new)
         (input cursor.old) result (input cursor.new) }
     ensures shorter { OnOk result (length cursor.new.left.now < length cursor.old.left.now) }
 {
@@ -105,11 +106,12 @@ fn member(
 fn question_member(
     alloc: Global,
     cursor: &mut Cursor<'_, Paragon>,
-    found: Members,
-) -> Result<Members, ParseError>
+    found: &mut Members,
+) -> Result<(), ParseError>
     ensures read { Reads
         (symbol.token (sort.Sign signs.QUESTION) ∷ symbol.name g.MarkedMember ∷ [])
-        (the_members found) the_members (input cursor.old) result (input cursor.new) }
+        (the_members found.old) (λ _. the_members found.new)
+        (input cursor.old) result (input cursor.new) }
     ensures shorter { OnOk result (length cursor.new.left.now < length cursor.old.left.now) }
 {
     cursor.take(Sort::Sign(sign::QUESTION))?;
@@ -120,9 +122,10 @@ fn question_member(
 fn marked_member(
     alloc: Global,
     cursor: &mut Cursor<'_, Paragon>,
-    found: Members,
-) -> Result<Members, ParseError>
-    ensures read { Reads (symbol.name g.MarkedMember ∷ []) (the_members found) the_members
+    found: &mut Members,
+) -> Result<(), ParseError>
+    ensures read { Reads (symbol.name g.MarkedMember ∷ [])
+        (the_members found.old) (λ _. the_members found.new)
         (input cursor.old) result (input cursor.new) }
     ensures shorter { OnOk result (length cursor.new.left.now < length cursor.old.left.now) }
 {
@@ -163,13 +166,14 @@ fn last_name<'a>(cursor: &mut Cursor<'a, Paragon>) -> Result<&'a Token, ParseErr
 fn inferred_field(
     alloc: Global,
     cursor: &mut Cursor<'_, Paragon>,
-    mut found: Members,
-) -> Result<Members, ParseError>
+    found: &mut Members,
+) -> Result<(), ParseError>
     ensures read { Reads
         (symbol.token (sort.Word words.UNDERSCORE) ∷ symbol.name g.MayStatic
         ∷ symbol.name g.AnyType ∷ symbol.kept sort.Name
         ∷ symbol.token (sort.Sign signs.SEMICOLON) ∷ symbol.builds g.InferredField ∷ [])
-        (the_members found) the_members (input cursor.old) result (input cursor.new) }
+        (the_members found.old) (λ _. the_members found.new)
+        (input cursor.old) result (input cursor.new) }
     ensures shorter { OnOk result (length cursor.new.left.now < length cursor.old.left.now) }
 {
     let front = inferred_front(alloc, cursor)?;
@@ -182,17 +186,18 @@ fn inferred_field(
         policy: None,
         inferred: true,
     })?;
-    Ok(found)
+    Ok(())
 }
 
 fn policed_member(
     alloc: Global,
     cursor: &mut Cursor<'_, Paragon>,
-    found: Members,
-) -> Result<Members, ParseError>
+    found: &mut Members,
+) -> Result<(), ParseError>
     ensures read { Reads
         (symbol.name g.Policy ∷ symbol.builds g.SomePolicy ∷ symbol.name g.PlainMember ∷ [])
-        (the_members found) the_members (input cursor.old) result (input cursor.new) }
+        (the_members found.old) (λ _. the_members found.new)
+        (input cursor.old) result (input cursor.new) }
     ensures shorter { OnOk result (length cursor.new.left.now < length cursor.old.left.now) }
 {
     let policy = some_policy(alloc, cursor)?;
@@ -203,11 +208,11 @@ fn policed_member(
 fn plain_member(
     alloc: Global,
     cursor: &mut Cursor<'_, Paragon>,
-    found: Members,
+    found: &mut Members,
     policy: Option<PolicyExpr>,
-) -> Result<Members, ParseError>
+) -> Result<(), ParseError>
     ensures read { Reads (symbol.name g.PlainMember ∷ [])
-        (may_be_policy policy ++ the_members found) the_members
+        (may_be_policy policy ++ the_members found.old) (λ _. the_members found.new)
         (input cursor.old) result (input cursor.new) }
     ensures shorter { OnOk result (length cursor.new.left.now < length cursor.old.left.now) }
 {
@@ -244,15 +249,15 @@ fn input_name<'a>(cursor: &mut Cursor<'a, Paragon>) -> Result<&'a Token, ParseEr
 fn input_channel(
     alloc: Global,
     cursor: &mut Cursor<'_, Paragon>,
-    mut found: Members,
+    found: &mut Members,
     policy: Option<PolicyExpr>,
-) -> Result<Members, ParseError>
+) -> Result<(), ParseError>
     ensures read { Reads
         (symbol.token (sort.Word words.INPUT) ∷ symbol.token (sort.Word words.INT)
         ∷ symbol.kept sort.Name ∷ symbol.token (sort.Sign signs.LEFT_PAREN)
         ∷ symbol.token (sort.Sign signs.RIGHT_PAREN) ∷ symbol.token (sort.Sign signs.SEMICOLON)
         ∷ symbol.builds g.InputChannel ∷ [])
-        (may_be_policy policy ++ the_members found) the_members
+        (may_be_policy policy ++ the_members found.old) (λ _. the_members found.new)
         (input cursor.old) result (input cursor.new) }
     ensures shorter { OnOk result (length cursor.new.left.now < length cursor.old.left.now) }
 {
@@ -263,7 +268,7 @@ fn input_channel(
         is_input: true,
         policy,
     })?;
-    Ok(found)
+    Ok(())
 }
 
 /// The name of an output channel, with all that stands around it.
@@ -293,16 +298,16 @@ fn output_name<'a>(cursor: &mut Cursor<'a, Paragon>) -> Result<&'a Token, ParseE
 fn output_channel(
     alloc: Global,
     cursor: &mut Cursor<'_, Paragon>,
-    mut found: Members,
+    found: &mut Members,
     policy: Option<PolicyExpr>,
-) -> Result<Members, ParseError>
+) -> Result<(), ParseError>
     ensures read { Reads
         (symbol.token (sort.Word words.OUTPUT) ∷ symbol.token (sort.Word words.VOID)
         ∷ symbol.kept sort.Name ∷ symbol.token (sort.Sign signs.LEFT_PAREN)
         ∷ symbol.token (sort.Word words.INT) ∷ symbol.token sort.Name
         ∷ symbol.token (sort.Sign signs.RIGHT_PAREN) ∷ symbol.token (sort.Sign signs.SEMICOLON)
         ∷ symbol.builds g.OutputChannel ∷ [])
-        (may_be_policy policy ++ the_members found) the_members
+        (may_be_policy policy ++ the_members found.old) (λ _. the_members found.new)
         (input cursor.old) result (input cursor.new) }
     ensures shorter { OnOk result (length cursor.new.left.now < length cursor.old.left.now) }
 {
@@ -313,17 +318,17 @@ fn output_channel(
         is_input: false,
         policy,
     })?;
-    Ok(found)
+    Ok(())
 }
 
 fn field_or_method(
     alloc: Global,
     cursor: &mut Cursor<'_, Paragon>,
-    found: Members,
+    found: &mut Members,
     policy: Option<PolicyExpr>,
-) -> Result<Members, ParseError>
+) -> Result<(), ParseError>
     ensures read { Reads (symbol.name g.MayStatic ∷ symbol.name g.StaticMember ∷ [])
-        (may_be_policy policy ++ the_members found) the_members
+        (may_be_policy policy ++ the_members found.old) (λ _. the_members found.new)
         (input cursor.old) result (input cursor.new) }
     ensures shorter { OnOk result (length cursor.new.left.now < length cursor.old.left.now) }
 {
@@ -358,11 +363,11 @@ fn written_static(cursor: &mut Cursor<'_, Paragon>) -> Result<bool, ParseError>
 fn static_member(
     alloc: Global,
     cursor: &mut Cursor<'_, Paragon>,
-    found: Members,
+    found: &mut Members,
     front: Front,
-) -> Result<Members, ParseError>
+) -> Result<(), ParseError>
     ensures read { Reads (symbol.name g.StaticMember ∷ [])
-        (a_front front ++ the_members found) the_members
+        (a_front front ++ the_members found.old) (λ _. the_members found.new)
         (input cursor.old) result (input cursor.new) }
     ensures shorter { OnOk result (length cursor.new.left.now < length cursor.old.left.now) }
 {
@@ -376,13 +381,13 @@ fn static_member(
 fn void_method(
     alloc: Global,
     cursor: &mut Cursor<'_, Paragon>,
-    found: Members,
+    found: &mut Members,
     front: Front,
-) -> Result<Members, ParseError>
+) -> Result<(), ParseError>
     ensures read { Reads
         (symbol.token (sort.Word words.VOID) ∷ symbol.builds g.NoResult ∷ symbol.kept sort.Name
         ∷ symbol.name g.Method ∷ [])
-        (a_front front ++ the_members found) the_members
+        (a_front front ++ the_members found.old) (λ _. the_members found.new)
         (input cursor.old) result (input cursor.new) }
     ensures shorter { OnOk result (length cursor.new.left.now < length cursor.old.left.now) }
 {
@@ -406,12 +411,12 @@ fn void_name<'a>(cursor: &mut Cursor<'a, Paragon>) -> Result<&'a Token, ParseErr
 fn typed_member(
     alloc: Global,
     cursor: &mut Cursor<'_, Paragon>,
-    found: Members,
+    found: &mut Members,
     front: Front,
-) -> Result<Members, ParseError>
+) -> Result<(), ParseError>
     ensures read { Reads
         (symbol.name g.AnyType ∷ symbol.kept sort.Name ∷ symbol.name g.TypedTail ∷ [])
-        (a_front front ++ the_members found) the_members
+        (a_front front ++ the_members found.old) (λ _. the_members found.new)
         (input cursor.old) result (input cursor.new) }
     ensures shorter { OnOk result (length cursor.new.left.now < length cursor.old.left.now) }
 {
@@ -424,14 +429,14 @@ fn typed_member(
 fn typed_tail(
     alloc: Global,
     cursor: &mut Cursor<'_, Paragon>,
-    found: Members,
+    found: &mut Members,
     front: Front,
     ty: TypeTree,
     name: &Token,
-) -> Result<Members, ParseError>
+) -> Result<(), ParseError>
     requires { IsOf sort.Name name.now }
     ensures read { Reads (symbol.name g.TypedTail ∷ [])
-        (a_typed name.now ty front ++ the_members found) the_members
+        (a_typed name.now ty front ++ the_members found.old) (λ _. the_members found.new)
         (input cursor.old) result (input cursor.new) }
     ensures shorter { OnOk result (length cursor.new.left.now < length cursor.old.left.now) }
 {
@@ -446,14 +451,14 @@ fn typed_tail(
 fn field(
     alloc: Global,
     cursor: &mut Cursor<'_, Paragon>,
-    mut found: Members,
+    found: &mut Members,
     front: Front,
     ty: TypeTree,
     name: &Token,
-) -> Result<Members, ParseError>
+) -> Result<(), ParseError>
     requires { IsOf sort.Name name.now }
     ensures read { Reads (symbol.token (sort.Sign signs.SEMICOLON) ∷ symbol.builds g.Field ∷ [])
-        (a_typed name.now ty front ++ the_members found) the_members
+        (a_typed name.now ty front ++ the_members found.old) (λ _. the_members found.new)
         (input cursor.old) result (input cursor.new) }
     ensures shorter { OnOk result (length cursor.new.left.now < length cursor.old.left.now) }
 {
@@ -466,20 +471,20 @@ fn field(
         policy: front.policy,
         inferred: false,
     })?;
-    Ok(found)
+    Ok(())
 }
 
 fn typed_method(
     alloc: Global,
     cursor: &mut Cursor<'_, Paragon>,
-    found: Members,
+    found: &mut Members,
     front: Front,
     ty: TypeTree,
     name: &Token,
-) -> Result<Members, ParseError>
+) -> Result<(), ParseError>
     requires { IsOf sort.Name name.now }
     ensures read { Reads (symbol.builds g.SomeResult ∷ symbol.name g.Method ∷ [])
-        (a_typed name.now ty front ++ the_members found) the_members
+        (a_typed name.now ty front ++ the_members found.old) (λ _. the_members found.new)
         (input cursor.old) result (input cursor.new) }
     ensures shorter { OnOk result (length cursor.new.left.now < length cursor.old.left.now) }
 {

@@ -40,14 +40,14 @@ pub struct Tail {
 pub fn method(
     alloc: Global,
     cursor: &mut Cursor<'_, Paragon>,
-    mut found: Members,
+    found: &mut Members,
     front: Front,
     result_type: Option<TypeTree>,
     name: &Token,
-) -> Result<Members, ParseError>
+) -> Result<(), ParseError>
     requires { IsOf sort.Name name.now }
     ensures read { Reads (symbol.name g.Method ∷ [])
-        (a_head name.now result_type front ++ the_members found) the_members
+        (a_head name.now result_type front ++ the_members found.old) (λ _. the_members found.new)
         (input cursor.old) result (input cursor.new) }
     ensures shorter { OnOk result (length cursor.new.left.now < length cursor.old.left.now) }
 {
@@ -66,7 +66,7 @@ pub fn method(
         throws: tail.effects.throws,
         body: tail.body,
     })?;
-    Ok(found)
+    Ok(())
 }
 
 /// What stands behind the name of a method.

@@ -16,15 +16,15 @@ use Rattle.par_parser.proofs.effect.more_effects.Goals as goal
 abbrev part : Mark → g.Symbols
 part mark = marks.part mark
 
-pub returns-in_err-found-in-Some-clause-read : goal.returns-in_err-found-in-Some-clause-read
-returns-in_err-found-in-Some-clause-read c =
+pub returns-in_err-effect-in-Some-clause-read : goal.returns-in_err-effect-in-Some-clause-read
+returns-in_err-effect-in-Some-clause-read c =
     handed paragon founded (symbol.name g.MoreEffects ∷ []) (reads.the_effects c.more.found)
     (input c.more.cursor) c.from_residual.ensures.1 c.more.invariant.leads
     (fails_again paragon founded g.MoreEffects (part c.in-Some.mark)
     (reads.the_effects c.more.found)
     (one_more (next (input c.more.cursor)) c.in-Some.mark
     (rw (← c.peek.ensures) (sym c.mark_of.ensures ∙ c.in-Some.is)))
-    c.in_err-found-in-Some.ensures.read)
+    c.in_err-effect-in-Some.ensures.read)
 
 pub more-preserved : goal.more-preserved
 more-preserved c = record {
@@ -32,8 +32,8 @@ more-preserved c = record {
       ∙ again paragon founded g.MoreEffects (part c.in-Some.mark) (reads.the_effects c.more.found)
       (one_more (next (input c.more.cursor)) c.in-Some.mark
       (rw (← c.peek.ensures) (sym c.mark_of.ensures ∙ c.in-Some.is)))
-      c.in_ok-found-in-Some.ensures.read s vs;
-  shorter = omega (arith, c.in_ok-found-in-Some.ensures.shorter);
+      c.in_ok-effect-in-Some.ensures.read s vs;
+  shorter = omega (arith, c.in_ok-effect-in-Some.ensures.shorter);
 }
 
 pub returns-in-None-clause-read : goal.returns-in-None-clause-read

@@ -19,7 +19,7 @@ returns-else-sees-clause-read c =
     opens paragon founded {ys = symbol.builds g.NoPolicy ∷ symbol.name g.PlainMember ∷ []}
     (rw (sym c.sees.ensures ∙ c.if-sees.false))
     (continued paragon founded (symbol.name g.PlainMember ∷ [])
-    (value.may_whole None ∷ reads.the_members c.args.found)
+    (value.may_whole None ∷ reads.the_members c.args.found.now)
     (λ s vs. run_builds paragon founded (symbol.name g.PlainMember ∷ s) (input c.args.cursor.now)
-    (reads.the_members c.args.found ++ vs) g.NoPolicy)
+    (reads.the_members c.args.found.now ++ vs) g.NoPolicy)
     c.plain_member.ensures.read)

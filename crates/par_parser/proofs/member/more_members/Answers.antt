@@ -12,20 +12,20 @@ use Rattle.par_parser.proofs.member.more_members.Goals as goal
 abbrev part : g.Symbols
 part = symbol.name g.Member ∷ []
 
-pub returns-in_err-found-clause-read : goal.returns-in_err-found-clause-read
-returns-in_err-found-clause-read c =
+pub returns-in_err-member-clause-read : goal.returns-in_err-member-clause-read
+returns-in_err-member-clause-read c =
     handed paragon founded (symbol.name g.MoreMembers ∷ []) (reads.the_members c.more.found)
     (input c.more.cursor) c.from_residual.ensures.1 c.more.invariant.leads
     (fails_again paragon founded g.MoreMembers part (reads.the_members c.more.found)
-    (rw (sym c.sees.ensures ∙ c.more-test.true)) c.in_err-found.ensures.read)
+    (rw (sym c.sees.ensures ∙ c.more-test.true)) c.in_err-member.ensures.read)
 
 pub more-preserved : goal.more-preserved
 more-preserved c = record {
   leads =
       λ s vs. c.more.invariant.leads s vs
       ∙ again paragon founded g.MoreMembers part (reads.the_members c.more.found)
-      (rw (sym c.sees.ensures ∙ c.more-test.true)) c.in_ok-found.ensures.read s vs;
-  shorter = omega (arith, c.in_ok-found.ensures.shorter);
+      (rw (sym c.sees.ensures ∙ c.more-test.true)) c.in_ok-member.ensures.read s vs;
+  shorter = omega (arith, c.in_ok-member.ensures.shorter);
 }
 
 pub returns-clause-read : goal.returns-clause-read
