@@ -201,8 +201,7 @@ impl<'a> Known<'a> {
     pub fn with_joins(self, alloc: Global, exprs: &[&'a PolicyExpr]) -> Result<Known<'a>, NoMemory>
         ensures { IfOk result (λ k. known_seen k ≡ known_seen self.entry) }
     {
-        let joins = joins_by_place(alloc, exprs)?;
-        let read = self.read_all(alloc, joins.as_slice())?;
+        let read = self.read_joins(alloc, exprs)?;
         let Known {
             numbers,
             names,
@@ -215,6 +214,14 @@ impl<'a> Known<'a> {
             values,
             read,
         })
+    }
+
+    // What the joins among these come to, up to the first that exceeds a limit.
+    fn read_joins(&self, alloc: Global, exprs: &[&'a PolicyExpr]) -> Result<Vec<Read<'a>>, NoMemory>
+        ensures { IfOk result (λ read. AreRead (known_seen self.now) read.items) }
+    {
+        let joins = joins_by_place(alloc, exprs)?;
+        self.read_all(alloc, joins.as_slice())
     }
 
     // What these come to, up to the first that exceeds a limit.

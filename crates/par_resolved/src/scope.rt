@@ -1,6 +1,7 @@
 // What is known of a whole program.
-ghost use Rattle.std.specs.Prelude.{◌≡◌, None, flat_map, IfOk, OnOk};
+ghost use Rattle.std.specs.Prelude.{◌≡◌, None, flat_map, map, IfOk, OnOk};
 ghost use Rattle.par_tree.specs.Shown.{source};
+ghost use Rattle.par_names.specs.par_index.Texts.{texts};
 ghost use Rattle.par_refusals.specs.First.{first_of};
 ghost use Rattle.par_resolved.specs.Few.{HasFew};
 ghost use Rattle.par_resolved.specs.Policies.{known, known_behind, with_value, value_of};
@@ -23,12 +24,20 @@ pub fn known(alloc: Global, program: &Program) -> Result<Known<'_>, NoMemory>
     requires { HasFew (source program.now) }
     ensures { IfOk result (λ k. known_seen k ≡ known (source program.now)) }
 {
-    let numbers = Numbers::of(alloc, program)?;
     let decls = policies(alloc, program)?;
-    let names = policy_names(alloc, decls.as_slice())?;
-    let names = NameIndex::of(alloc, names)?;
+    let names = index_of(alloc, decls.as_slice())?;
+    let numbers = Numbers::of(alloc, program)?;
     let known = Known::nothing(alloc, numbers, names);
     read_declared(alloc, known, decls.as_slice())
+}
+
+// The names of these declarations.
+fn index_of<'a>(alloc: Global, decls: &[&'a PolicyDecl]) -> Result<NameIndex<'a>, NoMemory>
+    ensures { IfOk result (λ index.
+        texts index.names.items ≡ map (λ d. d.id.name) (all_of decls.now)) }
+{
+    let names = policy_names(alloc, decls)?;
+    NameIndex::of(alloc, names)
 }
 
 // Reads these declarations, each by what is known behind those before it.
