@@ -170,6 +170,26 @@ impl Outline<'_> {
             is_told,
         })
     }
+
+    /// The pieces in their order.
+    fn spots<'m, 'f>(
+        &self,
+        alloc: Global,
+        method: &Method<'m, 'f>,
+        table: &[Option<PlaceFrame<'f>>],
+        classes: &mut Classes<'m, 'f>,
+    ) -> Result<Vec<Spot>, NoMemory>
+        requires { length (code_in method.now).code ≤ 65535 }
+    {
+        let mut bounds = Bounds::new();
+        let mut spots = Vec::new(alloc);
+        for at in 0..method.code.code.len() {
+            if is_marked(&self.heads, at) {
+                spots.push(self.spot(alloc, method, table, classes, &mut bounds, at)?)?;
+            }
+        }
+        Ok(spots)
+    }
 }
 
 /// The pieces of a method, by their offsets.
@@ -182,12 +202,7 @@ pub(crate) fn spots<'m, 'f>(
     requires { length (code_in method.now).code ≤ 65535 }
 {
     let outline = outlined(alloc, method, table, classes)?;
-    let mut bounds = Bounds::new();
-    let mut spots = Vec::new(alloc);
-    for at in 0..method.code.code.len() {
-        if is_marked(&outline.heads, at) {
-            spots.push(outline.spot(alloc, method, table, classes, &mut bounds, at)?)?;
-        }
-    }
-    Ok(spots)
+    let spots = outline.spots(alloc, method, table, classes);
+    drop(outline);
+    spots
 }
