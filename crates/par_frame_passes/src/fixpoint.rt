@@ -1,10 +1,11 @@
 //! All instructions, until nothing rises.
 
-ghost use Rattle.std.specs.Prelude.{◌≡◌, ◌≤◌, true, length, Some, IfOk};
+ghost use Rattle.std.specs.Prelude.{◌≡◌, ◌≤◌, true, length, Some, None, IfOk};
 ghost use Rattle.par_frame_moves.specs.par_kinds.Kinds.{KFrame};
 ghost use Rattle.par_frame_moves.specs.par_kinds.Fits.{Given};
 ghost use Rattle.par_frame_guesses.specs.Methods.{exc_of, act_in, handler_in, code_in, IsToldOf};
 ghost use Rattle.par_frame_passes.specs.Sweeps.{Kept, Settles};
+ghost use Rattle.par_frame_passes.specs.Sparing.{AreMarked};
 ghost use Rattle.par_frame_passes.specs.Tables.{table_of};
 
 use crate::course::Course;
@@ -32,10 +33,43 @@ fn least<'f>(
         Settles (exc_of method.now) (act_in method.now) (handler_in method.now)
         (code_in method.now) start found) }
 {
-    let mut sweep = Sweep::new(alloc, method)?;
     let begun = begun_offsets(alloc, method)?;
+    let mut sweep = Sweep::new(alloc, method)?;
     let mut spared: Option<PlaceFrame<'f>> = None;
     let mut merges = Merges::new(alloc);
+    settles(
+        alloc,
+        &mut merges,
+        method,
+        table,
+        &begun,
+        &mut spared,
+        &mut sweep,
+    )
+}
+
+/// The same by a sweep that stands at the first offset, while no frame is spared.
+fn settles<'f>(
+    alloc: Global,
+    merges: &mut Merges<'f>,
+    method: &Method<'_, 'f>,
+    table: &mut [Option<PlaceFrame<'f>>],
+    begun: &[bool],
+    spared: &mut Option<PlaceFrame<'f>>,
+    sweep: &mut Sweep,
+) -> Result<bool, NoMemory>
+    requires small { length (code_in method.now).code ≤ 65535 }
+    requires begun { AreMarked (code_in method.now).catches (length (code_in method.now).code)
+        begun.now }
+    requires spared { spared.old ≡ None }
+    requires at { sweep.old.at ≡ 0 }
+    ensures { IfOk result (λ found. (start : Given) (first : KFrame) →
+        IsToldOf method.now start → start 0 ≡ Some first →
+        Kept (exc_of method.now) (act_in method.now) (handler_in method.now)
+        (code_in method.now) start (table_of table.old) →
+        Settles (exc_of method.now) (act_in method.now) (handler_in method.now)
+        (code_in method.now) start found) }
+{
     // Frames rise seldom enough: the steps never come to an end.
     'steps: while sweep.has_steps() {
         let at = sweep.at();
@@ -44,16 +78,16 @@ fn least<'f>(
                 return Ok(true);
             }
             sweep.begin_again();
-            spared = None;
+            forget(spared, true);
         } else {
-            forget(&mut spared, is_marked(&begun, at));
+            forget(spared, is_marked(begun, at));
             let stays = sweep.stays();
-            let course = visit(alloc, &mut merges, method, table, &mut spared, at, stays)?;
+            let course = visit(alloc, merges, method, table, spared, at, stays)?;
             sweep.go_on(course);
             match course {
                 Course::Refused => return Ok(false),
                 Course::Calm => {}
-                Course::Rises(_) => spared = None,
+                Course::Rises(_) => forget(spared, true),
             }
         }
     }

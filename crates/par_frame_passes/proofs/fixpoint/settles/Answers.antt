@@ -6,16 +6,18 @@ use Rattle.par_frame_guesses.specs.Methods.{exc_of, act_in, handler_in, code_in}
 use Rattle.par_frame_passes.specs.Tables.{table_of}
 use Rattle.par_frame_passes.proofs.Sparing.{spares-here, spares-on, spares-none}
 use Rattle.par_frame_passes.proofs.Visits.{swept-all, gone-anew, gone-calm, gone-back}
-use Rattle.par_frame_passes.proofs.fixpoint.least.Goals as goal
+use Rattle.par_frame_passes.proofs.fixpoint.settles.Goals as goal
 
 pub steps-init : goal.steps-init
 steps-init c =
     let m = c.args.method.now in
     λ start told kept. (
       gone-anew (exc_of m) (act_in m) (handler_in m) (code_in m) start
-          (table_of c.args.table.now) _ c.in_ok-sweep.sweep.again c.in_ok-sweep.sweep.at refl
-          c.in_ok-sweep.ensures.at kept,
-      tt,
+          (table_of c.args.table.now) _ c.args.sweep.now.again c.args.sweep.now.at refl
+          c.requires.at kept,
+      spares-none (exc_of m) (act_in m) (handler_in m) (code_in m) c.args.sweep.now.at
+          (table_of c.args.table.now) (option_map frame_of c.args.spared.now)
+          (ap (option_map frame_of) c.requires.spared),
     )
 
 pub returns-then-not-rose : goal.returns-then-not-rose
@@ -35,7 +37,8 @@ steps-preserved-then-at-len c =
       gone-anew (exc_of m) (act_in m) (handler_in m) (code_in m) start
           (table_of c.steps.table) _ c.begin_again.new.self.again c.begin_again.new.self.at
           refl c.begin_again.ensures.at (c.steps.invariant start told kept).0.0,
-      tt,
+      spares-none (exc_of m) (act_in m) (handler_in m) (code_in m) c.begin_again.new.self.at
+          (table_of c.steps.table) (option_map frame_of c.forget.new.spared) c.forget.ensures,
     )
 
 pub returns-in-Refused : goal.returns-in-Refused
@@ -48,11 +51,10 @@ returns-in-Refused c =
     visited start told
     (spares-here (exc_of m) (act_in m) (handler_in m) (code_in m) c.steps.sweep.at
     (table_of c.steps.table) (option_map frame_of c.steps.spared) _ _ _ _
-    c.in_ok-begun.ensures (omega (arith, c.if-at-len.false, c.len.ensures, c.at-at.ensures))
+    c.requires.begun (omega (arith, c.if-at-len.false, c.len.ensures, c.at-at.ensures))
     (c.is_marked.ensures
-    ∙ (ap (λ marks. get_or marks c.at-at.result false) c.deref.ensures.value
-    ∙ ap (λ n. get_or c.in_ok-begun.begun.items n false) c.at-at.ensures))
-    c.forget.ensures before.1)
+    ∙ ap (λ n. get_or c.args.begun.now n false) c.at-at.ensures)
+    c.forget-else-at-len.ensures before.1)
     before.0.0
 
 pub steps-preserved-in-Calm : goal.steps-preserved-in-Calm
@@ -71,11 +73,10 @@ steps-preserved-in-Calm c =
     let here =
     spares-here (exc_of m) (act_in m) (handler_in m) (code_in m) c.steps.sweep.at
     (table_of c.steps.table) (option_map frame_of c.steps.spared) _ _ _ _
-    c.in_ok-begun.ensures inside
+    c.requires.begun inside
     (c.is_marked.ensures
-    ∙ (ap (λ marks. get_or marks c.at-at.result false) c.deref.ensures.value
-    ∙ ap (λ n. get_or c.in_ok-begun.begun.items n false) c.at-at.ensures))
-    c.forget.ensures before.1 in (
+    ∙ ap (λ n. get_or c.args.begun.now n false) c.at-at.ensures)
+    c.forget-else-at-len.ensures before.1 in (
       gone-calm (exc_of m) (act_in m) (handler_in m) (code_in m) start
           (table_of c.steps.table) (table_of c.visit.new.table) _ c.steps.sweep.again _
           c.steps.sweep.at _ (visited start told here) refl
@@ -95,14 +96,15 @@ steps-preserved c =
     let here =
     spares-here (exc_of m) (act_in m) (handler_in m) (code_in m) c.steps.sweep.at
     (table_of c.steps.table) (option_map frame_of c.steps.spared) _ _ _ _
-    c.in_ok-begun.ensures (omega (arith, c.if-at-len.false, c.len.ensures, c.at-at.ensures))
+    c.requires.begun (omega (arith, c.if-at-len.false, c.len.ensures, c.at-at.ensures))
     (c.is_marked.ensures
-    ∙ (ap (λ marks. get_or marks c.at-at.result false) c.deref.ensures.value
-    ∙ ap (λ n. get_or c.in_ok-begun.begun.items n false) c.at-at.ensures))
-    c.forget.ensures before.1 in (
+    ∙ ap (λ n. get_or c.args.begun.now n false) c.at-at.ensures)
+    c.forget-else-at-len.ensures before.1 in (
       gone-back (exc_of m) (act_in m) (handler_in m) (code_in m) start
           (table_of c.steps.table) (table_of c.visit.new.table) _ c.steps.sweep.again _
           c.steps.sweep.at _ 0 (visited start told here) refl
           (rw c.in-Rises.is at c.go_on.ensures.again) before.0,
-      tt,
+      spares-none (exc_of m) (act_in m) (handler_in m) (code_in m) c.go_on.new.self.at
+          (table_of c.visit.new.table) (option_map frame_of c.forget-in-Rises.new.spared)
+          c.forget-in-Rises.ensures,
     )

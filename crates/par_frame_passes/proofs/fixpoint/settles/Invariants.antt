@@ -6,7 +6,7 @@ use Rattle.par_frame_guesses.specs.Methods.{exc_of, act_in, handler_in, code_in,
 use Rattle.par_frame_passes.specs.Sparing.{SparesBehind}
 use Rattle.par_frame_passes.specs.Sweeps.{Kept, Swept}
 use Rattle.par_frame_passes.specs.Tables.{table_of}
-use Rattle.par_frame_passes.proofs.fixpoint.least.Given as goal
+use Rattle.par_frame_passes.proofs.fixpoint.settles.Given as goal
 
 -- The table is kept, and where nothing rose on this way so far it was gone through. The handlers
 -- around the offset before have met the frame that is spared.
