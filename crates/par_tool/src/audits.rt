@@ -1,20 +1,25 @@
 //! What is done to audit a source for an actor: the source is read and judged, and a line is made
 //! for each release of its program.
 
-ghost use Rattle.std.specs.Prelude.{◌≡◌, ◌≤◌, IsTrue, IfOk, IfErr, length};
+ghost use Rattle.std.specs.Prelude.{◌≡◌, ◌≤◌, IsTrue, IfOk, IfErr, length, map};
 ghost use Rattle.std.specs.List.{AllByRecursion, position};
 ghost use Rattle.std.specs.Str.{bytes_eq};
 ghost use Rattle.par_io.specs.Causes.{Makes};
+ghost use Rattle.par_check_laws.specs.Accepted.{IsAcceptedBy};
+ghost use Rattle.par_check.specs.par_flow.Table.{facts_in};
+ghost use Rattle.par_observer.specs.Trees.{IsWellFormed};
 ghost use Rattle.par_tool.specs.Audits as spec;
 ghost use Rattle.par_tool.specs.Audits.{IsAuditedAs, IsAuditOf, IsUnaudited, Unaudited};
 ghost use Rattle.par_tool.specs.Failures.{IsFailure, FaultsAreTold};
 ghost use Rattle.par_tool.specs.Lines.{texts_of};
+ghost use Rattle.par_tool.specs.Sources.{IsSecureAs};
 
 use crate::answer::Answer;
 use crate::reads::{Failure, read};
 use crate::sources::accepted;
 use crate::spots::{START, Spot};
 use par_audit::{Release, audit};
+use par_check::Accepted;
 use par_io::Folder;
 use par_lexer::LONGEST_SOURCE;
 use par_lexer::name::Name;
@@ -78,6 +83,28 @@ fn audit_lines(alloc: Global, source: &[u8], found: &[Release]) -> Result<Vec<Ve
     Ok(lines)
 }
 
+/// The lines of the audit of what a source is accepted as, for the actor of a name.
+fn lines_for(
+    alloc: Global,
+    source: &[u8],
+    accepted: &Accepted,
+    actor: &str,
+) -> Result<Vec<Vec<u8>>, Failure>
+    requires short { length source.now ≤ LONGEST_SOURCE }
+    requires accepted { IsSecureAs source.now accepted.now.typed }
+    requires well_formed { IsWellFormed accepted.now.typed }
+    requires kept { IsAcceptedBy accepted.now.typed (map facts_in accepted.now.facts) }
+    ensures audited { IfOk result (λ lines.
+        IsAuditedAs source.now actor.now (texts_of lines.items)) }
+    ensures failed { IfErr result (IsFailure (IsUnaudited source.now actor.now)) }
+{
+    let Some(actor) = actor_number(&accepted.typed().table, actor) else {
+        return Err(Failure::Answered(Answer::NoActor));
+    };
+    let found = audit(alloc, accepted, actor)?;
+    Ok(audit_lines(alloc, source, found.as_slice())?)
+}
+
 /// The lines of the audit of a source for the actor of a name.
 fn audited(alloc: Global, source: &[u8], actor: &str) -> Result<Vec<Vec<u8>>, Failure>
     requires { length source.now ≤ LONGEST_SOURCE }
@@ -86,11 +113,9 @@ fn audited(alloc: Global, source: &[u8], actor: &str) -> Result<Vec<Vec<u8>>, Fa
     ensures failed { IfErr result (IsFailure (IsUnaudited source.now actor.now)) }
 {
     let accepted = accepted(alloc, source)?;
-    let Some(actor) = actor_number(&accepted.typed().table, actor) else {
-        return Err(Failure::Answered(Answer::NoActor));
-    };
-    let found = audit(alloc, &accepted, actor)?;
-    Ok(audit_lines(alloc, source, found.as_slice())?)
+    let lines = lines_for(alloc, source, &accepted, actor);
+    drop(accepted);
+    lines
 }
 
 /// The lines of the audit of the source in a file.
