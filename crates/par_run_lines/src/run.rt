@@ -78,6 +78,28 @@ fn tell_events<S: Sink>(
     Ok(Closing::Ended(Ending::Stopped))
 }
 
+/// The same of a machine that nobody asks behind this.
+fn tell_all<S: Sink>(
+    alloc: Global,
+    machine: Machine,
+    steps: u32,
+    out: &mut S,
+) -> Result<Closing, Untold>
+    requires { steps_of machine + steps ≤ MOST_STEPS }
+    ensures faults_never_fall { (S.counts out.old).faults ≤ (S.counts out.new).faults }
+    ensures faults_stand { IsTrue S.counts_faults_alone →
+        PutsAreTold result (S.counts out.old).faults (S.counts out.new).faults }
+    ensures told { IfOk result (IsTold (runs_of machine steps)
+        (S.held out.old) (S.held out.new) (S.counts out.old) (S.counts out.new)) }
+    ensures cut { IfErr result (IsCutOff (lines (runs_of machine steps))
+        (S.held out.old) (S.held out.new) (S.counts out.old) (S.counts out.new)) }
+{
+    let mut machine = machine;
+    let told = tell_events(alloc, &mut machine, steps, out);
+    drop(machine);
+    told
+}
+
 /// Puts the line of a closing, and gives the status of the call.
 fn close<S: Sink>(alloc: Global, closing: &Closing, out: &mut S) -> u8
     ensures closes { Closes closing.now result (S.held out.old) (S.held out.new)
@@ -101,9 +123,12 @@ pub fn tell_run<S: Sink>(alloc: Global, machine: Machine, steps: u32, out: &mut 
     ensures failed_puts_are_told { IsTrue S.counts_faults_alone →
         result ≢ 6 → (S.counts out.new).faults ≡ (S.counts out.old).faults }
 {
-    let mut machine = machine;
-    match tell_events(alloc, &mut machine, steps, out) {
-        Ok(closing) => close(alloc, &closing, out),
+    match tell_all(alloc, machine, steps, out) {
+        Ok(closing) => {
+            let status = close(alloc, &closing, out);
+            drop(closing);
+            status
+        }
         Err(untold) => untold_status(untold),
     }
 }
