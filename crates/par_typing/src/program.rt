@@ -74,6 +74,31 @@ fn first_broken(
     check_bodies(alloc, table, program)
 }
 
+// The typed bodies of a program, exactly where no rule on types is broken.
+fn typed_bodies<'a>(
+    alloc: Global,
+    table: &'a Table,
+    known: Known<'a>,
+    program: &'a Program,
+) -> Result<List<TBody>, TypeError>
+    requires known { known_seen known ≡ policies.known (source program.now) }
+    requires named { all_faults (source program.now) ≡ [] }
+    requires tabled { table.now ≡ table_of (source program.now) }
+    requires numbers { SourceHasNumbers (source program.now) }
+    ensures right { IfOk result (λ _. type_faults table.now (source program.now) ≡ []) }
+    ensures bodies { IfOk result (λ found. bodies found
+        ≡ typed_program (written (source program.now)) table.now (source program.now)) }
+    ensures refused { IfErr result (IsRefused (type_faults table.now (source program.now))) }
+{
+    match first_broken(alloc, table, program)? {
+        Some(refusal) => Err(TypeError::Broken(refusal)),
+        None => {
+            let bodies = bodies_of(alloc, table, known, program)?;
+            Ok(bodies)
+        }
+    }
+}
+
 /// The typed program over this table, exactly where no rule on types is broken, by what is known of
 /// the program. It is well typed, and its table is well declared. A refusal drops the table.
 pub fn type_known(
@@ -93,13 +118,8 @@ pub fn type_known(
     ensures well_declared { IfOk result (λ typed. IsWellDeclared typed.table) }
     ensures refused { IfErr result (IsRefused (type_faults table (source program.now))) }
 {
-    match first_broken(alloc, &table, program)? {
-        Some(refusal) => Err(TypeError::Broken(refusal)),
-        None => {
-            let bodies = bodies_of(alloc, &table, known, program)?;
-            Ok(Typed { table, bodies })
-        }
-    }
+    let bodies = typed_bodies(alloc, &table, known, program)?;
+    Ok(Typed { table, bodies })
 }
 
 /// The same, where nothing is known of the program yet.
