@@ -107,26 +107,31 @@ module _ (exc : List Name) (act : Instr → Act) (handler_kind : Catch → VKind
       subst (λ (i : ℤ). Went exc act handler_kind code start at
       (record { to = i; frame = k; exact = false } ∷ []) t r s) same went
 
-  -- a frame that goes on at two offsets, which are told otherwise
-  pub branched : (at : ℕ) (k j : KFrame) (x y z v : ℤ) (t s r : Table) (a b c : Course)
+  -- a frame that goes on at two offsets
+  pub branched : (at : ℕ) (k : KFrame) (x y : ℤ) (t s r : Table) (a b c : Course)
       → Went exc act handler_kind code start at
       (record { to = x; frame = k; exact = false } ∷ []) t (Ok a) s
       → Went exc act handler_kind code start at
-      (record { to = y; frame = j; exact = false } ∷ []) s (Ok b) r
-      → c ≡ joined a b → j ≡ k → x ≡ z → y ≡ v
+      (record { to = y; frame = k; exact = false } ∷ []) s (Ok b) r → c ≡ joined a b
       → Went exc act handler_kind code start at
-      (onward exc act handler_kind code start k (z ∷ v ∷ [])) t (Ok c) r
-  branched at k j x y z v t s r a b c one other joins same first second =
+      (onward exc act handler_kind code start k (x ∷ y ∷ [])) t (Ok c) r
+  branched at k x y t s r a b c one other joins =
       subst (λ (d : Course). Went exc act handler_kind code start at
-      (onward exc act handler_kind code start k (z ∷ v ∷ [])) t (Ok d) r) (sym joins)
-      (went-then at (record { to = z; frame = k; exact = false } ∷ [])
-      (record { to = v; frame = k; exact = false } ∷ []) t s r a b
+      (onward exc act handler_kind code start k (x ∷ y ∷ [])) t (Ok d) r) (sym joins)
+      (went-then at (record { to = x; frame = k; exact = false } ∷ [])
+      (record { to = y; frame = k; exact = false } ∷ []) t s r a b one other)
+
+  -- two offsets, which are told otherwise
+  pub gone-both : (at : ℕ) (k : KFrame) (x y z v : ℤ) (t s : Table) (r : Result Course NoMemory)
+      → Went exc act handler_kind code start at
+      (onward exc act handler_kind code start k (x ∷ y ∷ [])) t r s → x ≡ z → y ≡ v
+      → Went exc act handler_kind code start at
+      (onward exc act handler_kind code start k (z ∷ v ∷ [])) t r s
+  gone-both at k x y z v t s r went first second =
+      subst (λ (i : ℤ). Went exc act handler_kind code start at
+      (onward exc act handler_kind code start k (i ∷ v ∷ [])) t r s) first
       (subst (λ (i : ℤ). Went exc act handler_kind code start at
-      (record { to = i; frame = k; exact = false } ∷ []) t (Ok a) s) first one)
-      (subst (λ (i : ℤ). Went exc act handler_kind code start at
-      (record { to = i; frame = k; exact = false } ∷ []) s (Ok b) r) second
-      (subst (λ (f : KFrame). Went exc act handler_kind code start at
-      (record { to = y; frame = f; exact = false } ∷ []) s (Ok b) r) same other)))
+      (onward exc act handler_kind code start k (x ∷ i ∷ [])) t r s) second went)
 
   -- ---- handlers
 

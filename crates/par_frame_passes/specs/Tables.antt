@@ -10,11 +10,11 @@ use Rattle.par_values.specs.Areas.{Name}
 use Rattle.par_frame_moves.specs.par_kinds.Kinds.{KFrame}
 use Rattle.par_frame_moves.specs.par_kinds.Acts.{Act, left_by}
 use Rattle.par_frame_pass_laws.specs.Passes.{Table, Way, Step, frame_at, act_fits}
+use Rattle.par_frame_steps.specs.declared.act.Flow.{Flow}
 use Rattle.par_frame_steps.specs.Marks.{frame_of, flow_of}
 pub use Rattle.par_frame_guesses.specs.Frames.{table_of}
 use Rattle.par_frame_passes.specs.declared.course.Course.{Course}
 use Rattle.par_frame_passes.specs.declared.course.Course.TheVariants as course
-use Rattle.par_frame_passes.specs.declared.outcome.Left.{Left}
 use Rattle.par_frame_passes.specs.declared.landings.PlaceWay.{PlaceWay}
 use Rattle.par_frame_passes.specs.declared.landings.Landing.{Landing}
 use Rattle.par_frame_passes.specs.declared.landings.Landing.TheVariants as landing
@@ -76,9 +76,8 @@ marks_after course.Refused marks = marks
 marks_after course.Calm marks = marks
 marks_after (course.Rises to) marks = slice_set marks to true
 
--- what an act leaves of a frame, where it fits
-abbrev pub IsLeft : List Name → Act → KFrame → Option Left → Type 0
-IsLeft exc a k None = act_fits exc a k ≡ false
-IsLeft exc a k (Some l) =
-    (act_fits exc a k ≡ true) × (frame_of l.frame ≡ left_by a.leaves (length a.takes) k)
-    × (flow_of l.flow ≡ a.flow)
+-- what an act leaves of a frame, where it fits, and where it goes on
+abbrev pub IsLeft : List Name → Act → KFrame → Option Flow → KFrame → Type 0
+IsLeft exc a k None j = act_fits exc a k ≡ false
+IsLeft exc a k (Some flow) j =
+    (act_fits exc a k ≡ true) × (j ≡ left_by a.leaves (length a.takes) k) × (flow_of flow ≡ a.flow)

@@ -3,6 +3,7 @@
 ghost use Rattle.std.specs.Prelude.{◌≡◌, ◌≤◌, true, length, Some, None, IfOk};
 ghost use Rattle.par_frame_moves.specs.par_kinds.Kinds.{KFrame};
 ghost use Rattle.par_frame_moves.specs.par_kinds.Fits.{Given};
+ghost use Rattle.par_frame_pass_laws.specs.Passes.{frame_at};
 ghost use Rattle.par_frame_guesses.specs.Methods.{exc_of, act_in, handler_in, code_in, IsToldOf};
 ghost use Rattle.par_frame_passes.specs.Sweeps.{Kept, Settles};
 ghost use Rattle.par_frame_passes.specs.Sparing.{AreMarked};
@@ -94,6 +95,35 @@ fn settles<'f>(
     Err(NoMemory)
 }
 
+/// Whether frames are found among which those are that stand in a table, which stay as they are.
+fn least_around<'f>(
+    alloc: Global,
+    method: &Method<'_, 'f>,
+    table: &mut [Option<PlaceFrame<'f>>],
+) -> Result<bool, NoMemory>
+    requires { length (code_in method.now).code ≤ 65535 }
+    ensures { IfOk result (λ found. (start : Given) (first : KFrame) →
+        IsToldOf method.now start → frame_at (table_of table.old) 0 ≡ Some first →
+        Kept (exc_of method.now) (act_in method.now) (handler_in method.now)
+        (code_in method.now) (frame_at (table_of table.old)) (table_of table.old) →
+        Settles (exc_of method.now) (act_in method.now) (handler_in method.now)
+        (code_in method.now) (frame_at (table_of table.old)) found) }
+{
+    let marks = standing(alloc, table)?;
+    let fixed = marks.as_slice();
+    let told = Method {
+        linked: method.linked,
+        class: method.class,
+        code: method.code,
+        gives: method.gives,
+        exceptions: method.exceptions,
+        starts: method.starts,
+        fixed,
+    };
+    let found = least(alloc, &told, table)?;
+    Ok(found)
+}
+
 /// Whether frames are found among which those are that are guessed.
 fn is_guessed<'f>(
     alloc: Global,
@@ -110,24 +140,13 @@ fn is_guessed<'f>(
 {
     let guesses = guessed(alloc, method, table)?;
     if guesses.is_empty() {
+        drop(guesses);
         return Ok(false);
     }
     let mut table = told(alloc, method, table, guesses)?;
-    let stand = table.as_slice();
-    let marks = standing(alloc, stand)?;
-    let fixed = marks.as_slice();
-    let told = Method {
-        linked: method.linked,
-        class: method.class,
-        code: method.code,
-        gives: method.gives,
-        exceptions: method.exceptions,
-        starts: method.starts,
-        fixed,
-    };
-    let frames = table.as_mut_slice();
-    let found = least(alloc, &told, frames)?;
-    Ok(found)
+    let found = least_around(alloc, method, table.as_mut_slice());
+    drop(table);
+    found
 }
 
 /// Goes through the code, with frames that are guessed where it goes back, or else until nothing

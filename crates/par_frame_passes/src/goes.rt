@@ -46,14 +46,64 @@ pub(crate) fn go_on<'f>(
             go_to(alloc, merges, method, table, frame, to, at)
         }
         Flow::Branches(to) => {
-            let other = frame.copied(alloc)?;
             let to = at as i32 + i32::from(to);
-            let ahead = go_to(alloc, merges, method, table, frame, next as i32, at)?;
-            let aside = go_to(alloc, merges, method, table, other, to, at)?;
-            Ok(ahead.joined(aside))
+            go_to_both(alloc, merges, method, table, frame, next as i32, to, at)
         }
-        Flow::Nowhere => Ok(Course::Calm),
+        Flow::Nowhere => {
+            drop(frame);
+            Ok(Course::Calm)
+        }
     }
+}
+
+/// Lets a frame go on at one offset, and then at another.
+fn go_to_both<'f>(
+    alloc: Global,
+    merges: &mut Merges<'f>,
+    method: &Method<'_, 'f>,
+    table: &mut [Option<PlaceFrame<'f>>],
+    frame: PlaceFrame<'f>,
+    ahead: i32,
+    aside: i32,
+    at: u32,
+) -> Result<Course, NoMemory>
+    ensures { (start : Given) → IsToldOf method.now start →
+        Went (exc_of method.now) (act_in method.now) (handler_in method.now)
+        (code_in method.now) start at
+        (onward (exc_of method.now) (act_in method.now) (handler_in method.now)
+        (code_in method.now) start (frame_of frame.entry) (ahead ∷ aside ∷ []))
+        (table_of table.old) result (table_of table.new) }
+{
+    match copy_goes_to(alloc, merges, method, table, &frame, ahead, at) {
+        Ok(first) => {
+            let second = go_to(alloc, merges, method, table, frame, aside, at)?;
+            Ok(first.joined(second))
+        }
+        Err(error) => {
+            drop(frame);
+            Err(error)
+        }
+    }
+}
+
+/// Lets a copy of a frame go on at an offset.
+fn copy_goes_to<'f>(
+    alloc: Global,
+    merges: &mut Merges<'f>,
+    method: &Method<'_, 'f>,
+    table: &mut [Option<PlaceFrame<'f>>],
+    frame: &PlaceFrame<'f>,
+    to: i32,
+    at: u32,
+) -> Result<Course, NoMemory>
+    ensures { (start : Given) → IsToldOf method.now start →
+        Went (exc_of method.now) (act_in method.now) (handler_in method.now)
+        (code_in method.now) start at
+        (record { to = to; frame = frame_of frame.now; exact = false } ∷ [])
+        (table_of table.old) result (table_of table.new) }
+{
+    let copy = frame.copied(alloc)?;
+    go_to(alloc, merges, method, table, copy, to, at)
 }
 
 /// Lets a frame go on at an offset.
@@ -91,12 +141,11 @@ fn handle<'f>(
         (taken_by (handler_in method.now) (frame_of frame.now) catch.now ∷ [])
         (table_of table.old) result (table_of table.new) }
 {
-    let mut stack = Pile::new(alloc);
-    stack.push(alloc, caught(method.linked, method.class, catch))?;
+    let kind = caught(method.linked, method.class, catch);
     let frame = PlaceFrame {
         many: frame.many,
         locals: frame.locals.copied(alloc)?,
-        stack,
+        stack: Pile::of(alloc, &[kind])?,
     };
     let to = i32::from(catch.handler);
     arrive(alloc, merges, method, table, frame, to, true, at as usize)

@@ -72,6 +72,7 @@ fn anew<'f>(method: &Method<'_, 'f>, at: u32, way: PlaceWay<'f>) -> Landing<'f>
         && way.frame.places() == method.code.max_locals as usize
         && way.frame.operands() <= method.code.max_stack as usize;
     if !fits {
+        drop(way);
         return Landing::Refused;
     }
     Landing::Rises(way.frame)
@@ -93,7 +94,11 @@ fn landing_at<'f>(
         (frame_at (table_of table.entry.now) at)) }
 {
     match kept(table, at as usize) {
-        Some(kept) => onto(alloc, merges, method, at as usize, &way, kept),
+        Some(kept) => {
+            let landing = onto(alloc, merges, method, at as usize, &way, kept);
+            drop(way);
+            landing
+        }
         None => Ok(anew(method, at, way)),
     }
 }
@@ -112,6 +117,7 @@ fn land<'f>(
         (way_of way.entry)) }
 {
     if way.to < 0 {
+        drop(way);
         return Ok(None);
     }
     let at = way.to as u32;

@@ -19,4 +19,4 @@ mod visit;
 
 pub use fixpoint::passes;
 pub use par_frame_guesses::Method;
-pub use table::Table;
+pub use table::{Table, put};

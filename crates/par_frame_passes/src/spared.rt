@@ -47,7 +47,8 @@ pub(crate) fn forget<'f>(spared: &mut Option<PlaceFrame<'f>>, is_over: bool)
         ≡ (if is_over then None else option_map frame_of spared.old) }
 {
     if is_over {
-        *spared = None;
+        let before = spared.take();
+        drop(before);
     }
 }
 
@@ -113,6 +114,7 @@ pub(crate) fn meet_handlers<'f>(
     }
     let course = go_to_handlers(alloc, merges, method, table, frame, at, catches)?;
     let met = bare(alloc, frame)?;
-    *spared = Some(met);
+    let before = spared.replace(met);
+    drop(before);
     Ok(course)
 }

@@ -62,16 +62,19 @@ pub(crate) fn taken<'f>(
     Ok(moved(table, at))
 }
 
-/// Keeps a frame for an offset of the table.
+/// Keeps a frame for an offset of the table, in the place of the one that stood there. For another
+/// offset none is kept.
 #[tactic(auto, using(crate::proofs::Puts::put_there, crate::proofs::Puts::put_nowhere))]
-pub(crate) fn put<'f>(table: &mut [Option<PlaceFrame<'f>>], at: usize, frame: PlaceFrame<'f>)
+pub fn put<'f>(table: &mut [Option<PlaceFrame<'f>>], at: usize, frame: PlaceFrame<'f>)
     ensures { table_of table.new
         ≡ slice_set (table_of table.old) at (Some (frame_of frame.entry)) }
 {
     if at >= table.len() {
+        drop(frame);
         return;
     }
-    table[at] = Some(frame);
+    let before = table[at].replace(frame);
+    drop(before);
 }
 
 /// Whether an offset has no frame and stands ahead of another.

@@ -10,7 +10,7 @@ ghost use Rattle.par_frame_guesses.specs.Methods.{code_in, IsToldOf};
 ghost use Rattle.par_frame_passes.specs.Tables.{table_of};
 ghost use Rattle.par_frame_passes.specs.Telling.{Tells};
 
-use crate::table::Table;
+use crate::table::{Table, put};
 use par_base::memory::NoMemory;
 use par_frame_guesses::{Guess, Method, kept};
 use par_frame_steps::PlaceFrame;
@@ -72,15 +72,11 @@ fn copies<'f>(alloc: Global, table: &[Option<PlaceFrame<'f>>]) -> Result<Table<'
 }
 
 /// Puts a frame at an offset of the table.
-#[tactic(auto, using(crate::proofs::Puts::put_there, crate::proofs::Puts::put_nowhere))]
 fn stand<'f>(table: &mut Table<'f>, at: usize, frame: PlaceFrame<'f>)
     ensures { table_of table.new.items
         ≡ slice_set (table_of table.old.items) at (Some (frame_of frame.entry)) }
 {
-    if at >= table.len() {
-        return;
-    }
-    table[at] = Some(frame);
+    put(table.as_mut_slice(), at, frame);
 }
 
 /// Tells a frame of an offset, if it can stand there and none does.
@@ -90,6 +86,7 @@ fn tell<'f>(method: &Method<'_, 'f>, table: &mut Table<'f>, guess: Guess<'f>)
 {
     let at = guess.at as usize;
     if !has_none(table, at) || !can_stand(method, guess.at, &guess.frame) {
+        drop(guess);
         return;
     }
     stand(table, at, guess.frame);

@@ -12,6 +12,7 @@ pub returns-in-Some : goal.returns-in-Some
 returns-in-Some c =
     let m = c.args.method.now in
     subst (λ (a : Act). IfOk c.left_in_place.result
-    (λ left. IsLeft (exc_of m) a (frame_of c.args.frame) left))
+    (λ flow. IsLeft (exc_of m) a (frame_of c.args.frame.now) flow
+    (frame_of c.left_in_place.new.frame)))
     (c.in-Some.ensures (option_map kind_of m.gives) (shape_at m.linked.now m.class))
     (c.left_in_place.ensures (exc_of m))

@@ -48,7 +48,8 @@ returns-clause-spared c =
     let m = c.args.method.now in
     λ start told spares kept meets calm.
     let still : c.in_ok-course.course ≡ course.Calm = cc calm in
-    met-spares (exc_of m) (act_in m) (handler_in m) (code_in m) start c.args.at
+    rw c.replace-before.ensures.after
+    (met-spares (exc_of m) (act_in m) (handler_in m) (code_in m) start c.args.at
     (table_of c.args.table.now) (table_of c.go_to_handlers.new.table)
     (frame_of c.args.frame.now) (frame_of c.in_ok-met.met)
     c.in_ok-met.ensures kept meets
@@ -62,4 +63,4 @@ returns-clause-spared c =
     (handled (exc_of m) (act_in m) (handler_in m) (code_in m) start c.args.at
     (frame_of c.args.frame.now) cs)
     (table_of c.args.table.now) (Ok c.in_ok-course.course) (table_of c.go_to_handlers.new.table))
-    c.as_slice-catches.ensures (c.in_ok-course.ensures start told)))
+    c.as_slice-catches.ensures (c.in_ok-course.ensures start told))))
