@@ -1,3 +1,4 @@
+pub mod Calling
 pub mod Counting
 pub mod Deciding
 pub mod Folding

@@ -1,4 +1,5 @@
 pub mod Answers
+pub mod Calls
 pub mod Said
 pub mod Starts
 pub mod Told

@@ -2,30 +2,31 @@
 
 ghost use Rattle.std.specs.Prelude.{◌≡◌, ◌<◌, IfOk, Some, length, slice_get};
 ghost use Rattle.par_kinds.specs.Linked.{exception_names};
+ghost use Rattle.par_single.specs.Members.{own_name};
 ghost use Rattle.par_frame_steps.specs.Marks.{names, kinds_of};
 ghost use Rattle.par_frame_passes.specs.Tables.{table_of};
 ghost use Rattle.par_given_frames.specs.par_frames.Given.{start_of};
 ghost use Rattle.par_verify_laws.specs.Verified.{AreFramesOf};
 ghost use Rattle.par_verify.specs.Answers.{HaveFrames, OfFrames, IsMethod, IsFirstIn, Says, Passes};
 ghost use Rattle.par_verify.specs.Answers.{Verified};
+ghost use Rattle.par_verify.specs.Calls.{AreCalls};
 ghost use Rattle.par_verify.specs.Starts.{IsTold};
 ghost use Rattle.par_verify.specs.Told.{IsFirst, IsVerdictOn};
 
 use crate::begun::told_table;
 use crate::error::{Unfit, VerifyError};
-use crate::first::first_frame;
+use crate::first::{Call, call_at, calls, first_frame};
 use crate::judgement::{Site, judge};
 use crate::names::exception_names;
 use par_base::list::List;
 use par_base::memory::NoMemory;
 use par_class::file::{ClassFile, CodeAttr, MethodFile};
-use par_frame_acts::gives_at;
 use par_frame_passes::Table;
 use par_frame_steps::PlaceFrame;
 use par_given_frames::method_forms;
 use par_kinds::MethodFrames;
 use par_link::Linked;
-use par_single::member::{is_static, own_name, text_at};
+use par_single::member::{is_static, own_name};
 use std::alloc::Global;
 
 /// Linked files and the names of their exception classes.
@@ -61,6 +62,7 @@ fn is_verified<'f>(
     program: Program<'_, 'f>,
     class: u16,
     file: &'f ClassFile,
+    calls: &[Call<'f>],
     place: usize,
     method: &'f MethodFile,
     code: &'f CodeAttr,
@@ -68,19 +70,18 @@ fn is_verified<'f>(
     requires exceptions { names program.exceptions.now ≡ exception_names program.linked.now }
     requires there { IsMethod program.linked.now class file.now place method.now }
     requires coded { method.now.code ≡ Some code.now }
+    requires calls { AreCalls (own_name file.now) file.now.pool.entries calls.now }
     ensures { IfOk result (λ fits. OfFrames program.entry.linked.now
         (λ all. Says program.entry.linked.now all class place fits)) }
 {
-    let entries = file.pool.entries.as_slice();
-    let descriptor = text_at(entries, method.descriptor);
-    let fixed = is_static(method.access);
-    let first = first_frame(alloc, code.max_locals, fixed, own_name(file), descriptor)?;
+    let call = call_at(calls, method.descriptor);
+    let first = first_frame(alloc, code.max_locals, is_static(method.access), call)?;
     let table = told_frames(alloc, file, method, code, &first)?;
     let site = Site {
         linked: program.linked,
         class,
         code,
-        gives: gives_at(descriptor),
+        gives: call.gives,
         exceptions: program.exceptions,
     };
     // Code of linked files is short.
@@ -94,17 +95,19 @@ fn passes<'f>(
     program: Program<'_, 'f>,
     class: u16,
     file: &'f ClassFile,
+    calls: &[Call<'f>],
     place: usize,
 ) -> Result<bool, NoMemory>
     requires exceptions { names program.exceptions.now ≡ exception_names program.linked.now }
     requires listed { slice_get program.linked.now class ≡ Some file.now }
     requires inside { place < length file.now.methods }
+    requires calls { AreCalls (own_name file.now) file.now.pool.entries calls.now }
     ensures { IfOk result (λ fits. OfFrames program.entry.linked.now
         (λ all. Passes program.entry.linked.now all class place fits)) }
 {
     let method = &file.methods.as_slice()[place];
     match &method.code {
-        Some(code) => is_verified(alloc, program, class, file, place, method, code),
+        Some(code) => is_verified(alloc, program, class, file, calls, place, method, code),
         None => Ok(true),
     }
 }
@@ -120,8 +123,9 @@ fn first_unfit(alloc: Global, program: Program<'_, '_>, class: u16) -> Result<Op
     };
     // A file counts its methods by two bytes.
     let _ = program.linked.count();
+    let calls = calls(alloc, own_name(file), file.pool.entries.as_slice())?;
     for place in 0..file.methods.len() {
-        let fits = passes(alloc, program, class, file, place)?;
+        let fits = passes(alloc, program, class, file, calls.as_slice(), place)?;
         if !fits {
             return Ok(Some(place as u32));
         }
