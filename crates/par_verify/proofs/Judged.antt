@@ -2,7 +2,7 @@
 use Rattle.std.proofs.Common.{◌≡◌, ℕ, zero, suc, ◌+◌, ◌*◌, ◌<◌, ◌≤◌, Bool, true, false, ◌&&◌, cond}
 use Rattle.std.proofs.Common.{List, [], ◌∷◌, length, map, Option, Some, None, is_some, refl, sym}
 use Rattle.std.proofs.Common.{ap, subst}
-use Rattle.std.proofs.Common.{◌∙◌, arith, slice_index_or, get_or}
+use Rattle.std.proofs.Common.{◌∙◌, arith, slice_index_or}
 use Rattle.std.proofs.lemmas.List.{length-map}
 use Rattle.std.proofs.lemmas.Bool.{and_parts}
 use Rattle.std.specs.Option.{option_map}
@@ -32,7 +32,6 @@ use Rattle.par_frame_passes.specs.par_frame_guesses.Methods.{IsToldOf}
 use Rattle.par_frame_passes.specs.Sweeps.{Fits, Kept, Settles}
 use Rattle.par_frame_passes.proofs.Tabled.{found-inside}
 use Rattle.par_frame_passes.specs.Tables.{table_of}
-use Rattle.par_frame_passes.proofs.Puts.{found_there}
 
 start-long : (g : Given) (bytes : List ℕ) (from : ℕ)
     → length (start_table g from bytes) ≡ length bytes
@@ -84,13 +83,6 @@ pub first-held : (told : Given) (bytes : List ℕ) (t : Table) → starts_at byt
     → t ≡ start_table told 0 bytes → frame_at t 0 ≡ told 0
 first-held told bytes t begins is =
     ap (λ u. frame_at u 0) is ∙ start-held told bytes 0 0 (starts-within bytes 0 0 begins)
-
-pub told-first : (t : List (Option PlaceFrame)) (o : Option PlaceFrame) (told : Given)
-    (bytes : List ℕ) → 0 < length t → o ≡ get_or t 0 o → starts_at bytes 0 ≡ true
-    → table_of t ≡ start_table told 0 bytes → option_map frame_of o ≡ told 0
-told-first t o told bytes inside is begins same =
-    ap (option_map frame_of) is ∙ found_there t 0 o inside
-    ∙ first-held told bytes (table_of t) begins same
 
 -- ---- which frames stay
 

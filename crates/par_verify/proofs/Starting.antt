@@ -3,20 +3,27 @@ use Rattle.std.proofs.Common.{◌≡◌, ℕ, zero, suc, ◌+◌, ◌-◌, ◌<�
 use Rattle.std.proofs.Common.{true, false}
 use Rattle.std.proofs.Common.{List, [], ◌∷◌, ◌++◌, Option, Some, None, length, drop, set, replicate}
 use Rattle.std.proofs.Common.{refl, sym}
-use Rattle.std.proofs.Common.{ap, ◌∙◌, arith, get_or, drop-cons}
+use Rattle.std.proofs.Common.{ap, ◌∙◌, arith, get_or, drop-cons, length-set}
 use Rattle.std.proofs.lemmas.Bool.{eqb-true, eq-eqb}
-use Rattle.std.proofs.lemmas.List.{drop_all, replicate-append-replicate}
+use Rattle.std.proofs.lemmas.List.{drop_all, length-map, replicate-append-replicate}
 use Rattle.std.specs.Option.{option_map}
 use Rattle.par_kinds.specs.declared.frame.PlacedFrame.{PlacedFrame}
 use Rattle.par_kinds.specs.Kinds.{KFrame}
 use Rattle.par_kinds.specs.Fits.{Given}
 use Rattle.par_kinds.specs.Told.{as_met, told}
 use Rattle.par_frame_steps.specs.declared.frame.PlaceFrame.{PlaceFrame}
+use Rattle.par_frame_steps.specs.Marks.{frame_of}
 use Rattle.par_frame_passes.specs.Tables.{table_of}
 use Rattle.par_verify_laws.specs.par_frame_pass_laws.Passes.{Table, from_start, start_table}
 use Rattle.par_verify_laws.specs.Verified.{whole}
 use Rattle.par_verify.specs.Starts.{told_of}
-pub use Rattle.par_frame_passes.proofs.Puts.{put_there, put_nowhere}
+
+-- a table in which a frame is put is as long
+pub put-many : (t u : List (Option PlaceFrame)) (at : ℕ) (o : Option KFrame)
+    → table_of u ≡ set (table_of t) at o → length u ≡ length t
+put-many t u at o is =
+    sym (length-map u (option_map frame_of)) ∙ ap length is ∙ length-set (table_of t) at o
+    ∙ length-map t (option_map frame_of)
 
 -- frames that are the same from an offset on
 pub start-same : (g h : Given) (bytes : List ℕ) (from : ℕ)

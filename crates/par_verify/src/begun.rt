@@ -1,9 +1,9 @@
 //! The frames from which the passes start.
 
-ghost use Rattle.std.specs.Prelude.{◌≡◌, ◌<◌, ◌^◌, Some, None, replicate, slice_set, length};
+ghost use Rattle.std.specs.Prelude.{◌≡◌, ◌<◌, ◌^◌, None, replicate, length};
 ghost use Rattle.std.specs.Prelude.{IfOk, IfSome};
 ghost use Rattle.par_verify_laws.specs.par_frame_pass_laws.Passes.{start_table};
-ghost use Rattle.par_frame_steps.specs.Marks.{kinds_of, frame_of};
+ghost use Rattle.par_frame_steps.specs.Marks.{kinds_of};
 ghost use Rattle.par_frame_passes.specs.Tables.{table_of};
 ghost use Rattle.par_given_frames.specs.par_frames.Given.{frames_said};
 ghost use Rattle.par_verify.specs.Starts.{told_of};
@@ -13,7 +13,7 @@ use par_base::memory::NoMemory;
 use par_class::file::CodeAttr;
 use par_class::par_pool::constant::Constant;
 use par_frame_forms::FrameForm;
-use par_frame_passes::Table;
+use par_frame_passes::{Table, put};
 use par_frame_steps::{Pile, PlaceFrame};
 use par_given_frames::delta;
 use std::alloc::Global;
@@ -30,17 +30,35 @@ fn no_frames<'f>(alloc: Global, len: usize) -> Result<Table<'f>, NoMemory>
     Ok(table)
 }
 
-/// Keeps a frame for an offset of the table.
-#[tactic(auto, using(crate::proofs::Starting::put_there, crate::proofs::Starting::put_nowhere))]
-pub(crate) fn keep<'f>(table: &mut Table<'f>, at: usize, frame: PlaceFrame<'f>)
-    ensures many { length table.new.items ≡ length table.old.items }
-    ensures kept { table_of table.new.items
-        ≡ slice_set (table_of table.old.items) at (Some (frame_of frame.entry)) }
+/// Puts the frames that forms say of code into a table that has none, where the first form lists
+/// its locals behind these.
+fn tell_forms<'f>(
+    alloc: Global,
+    entries: &'f [Constant],
+    code: &CodeAttr,
+    start: &Pile<'f>,
+    forms: &[FrameForm],
+    table: &mut [Option<PlaceFrame<'f>>],
+) -> Result<(), NoMemory>
+    requires few { length forms.now < 2 ^ 16 }
+    requires blank { table.old ≡ replicate (length code.now.code) None }
+    ensures { IfOk result (λ done.
+        IfSome (frames_said entries.entry.now 0 (kinds_of start.now) forms.now)
+        (λ frames. table_of table.new
+        ≡ start_table (told_of code.now.max_locals frames) 0 code.now.code)) }
 {
-    if at >= table.len() {
-        return;
+    let copy = start.copied(alloc)?;
+    let mut listed = copy;
+    let mut from: u32 = 0;
+    for form in forms {
+        listed = locals_said(alloc, entries, listed, form)?;
+        let frame = frame_said(alloc, entries, code.max_locals, &listed, form)?;
+        let at = from + u32::from(delta(form));
+        put(table, at as usize, frame);
+        from = at + 1;
     }
-    table[at] = Some(frame);
+    drop(listed);
+    Ok(())
 }
 
 /// The frames that forms say of code, by its offsets, where the first form lists its locals behind
@@ -49,25 +67,22 @@ pub(crate) fn told_table<'f>(
     alloc: Global,
     entries: &'f [Constant],
     code: &CodeAttr,
-    start: Pile<'f>,
+    start: &Pile<'f>,
     forms: &[FrameForm],
 ) -> Result<Table<'f>, NoMemory>
     requires few { length forms.now < 2 ^ 16 }
     ensures many { IfOk result (λ table. length table.items ≡ length code.now.code) }
     ensures told { IfOk result (λ table.
-        IfSome (frames_said entries.entry.now 0 (kinds_of start.entry) forms.now)
+        IfSome (frames_said entries.entry.now 0 (kinds_of start.now) forms.now)
         (λ frames. table_of table.items
         ≡ start_table (told_of code.now.max_locals frames) 0 code.now.code)) }
 {
     let mut table = no_frames(alloc, code.code.len())?;
-    let mut listed = start;
-    let mut from: u32 = 0;
-    for form in forms {
-        listed = locals_said(alloc, entries, listed, form)?;
-        let frame = frame_said(alloc, entries, code.max_locals, &listed, form)?;
-        let at = from + u32::from(delta(form));
-        keep(&mut table, at as usize, frame);
-        from = at + 1;
+    match tell_forms(alloc, entries, code, start, forms, table.as_mut_slice()) {
+        Ok(()) => Ok(table),
+        Err(error) => {
+            drop(table);
+            Err(error)
+        }
     }
-    Ok(table)
 }

@@ -1,9 +1,10 @@
 //! Whether frames fit the methods of linked files.
 
-ghost use Rattle.std.specs.Prelude.{◌≡◌, ◌<◌, IfOk, Some, length, slice_get};
-ghost use Rattle.par_kinds.specs.Linked.{exception_names};
+ghost use Rattle.std.specs.Prelude.{◌≡◌, ◌<◌, IfOk, Some, length, slice_get, option_map};
+ghost use Rattle.par_single.specs.Descriptors.{kind_of};
 ghost use Rattle.par_single.specs.Members.{own_name};
-ghost use Rattle.par_frame_steps.specs.Marks.{names, kinds_of};
+ghost use Rattle.par_kinds.specs.Linked.{exception_names, first_frame, result_of};
+ghost use Rattle.par_frame_steps.specs.Marks.{names, kinds_of, frame_of};
 ghost use Rattle.par_frame_passes.specs.Tables.{table_of};
 ghost use Rattle.par_given_frames.specs.par_frames.Given.{start_of};
 ghost use Rattle.par_verify_laws.specs.Verified.{AreFramesOf};
@@ -51,9 +52,34 @@ fn told_frames<'f>(
         IsTold file.entry.now method.now code.now (table_of table.items)) }
 {
     let forms = method_forms(alloc, file, method)?;
-    let listed = first.locals.copied(alloc)?;
     let entries = file.pool.entries.as_slice();
-    told_table(alloc, entries, code, listed, forms.as_slice())
+    told_table(alloc, entries, code, &first.locals, forms.as_slice())
+}
+
+/// Whether a method with code is verified, where this is the frame of a call of it.
+fn fits_from<'f>(
+    alloc: Global,
+    site: Site<'_, 'f>,
+    file: &'f ClassFile,
+    place: usize,
+    method: &MethodFile,
+    first: &PlaceFrame<'f>,
+) -> Result<bool, NoMemory>
+    requires exceptions { names site.exceptions.now ≡ exception_names site.linked.now }
+    requires there { IsMethod site.linked.now site.class file.now place method.now }
+    requires coded { method.now.code ≡ Some site.code.now }
+    requires gives { option_map kind_of site.gives ≡ result_of site.linked.now site.class place }
+    requires listed { kinds_of first.now.locals ≡ start_of file.now method.now }
+    requires first { frame_of first.now ≡ first_frame site.linked.now site.class place }
+    ensures { IfOk result (λ fits. OfFrames site.entry.linked.now
+        (λ all. Says site.entry.linked.now all site.entry.class place fits)) }
+{
+    let mut table = told_frames(alloc, file, method, site.code, first)?;
+    // Code of linked files is short.
+    let _ = site.linked.count();
+    let fits = judge(alloc, site, first, table.as_mut_slice());
+    drop(table);
+    fits
 }
 
 /// Whether a method with code is verified.
@@ -75,8 +101,6 @@ fn is_verified<'f>(
         (λ all. Says program.entry.linked.now all class place fits)) }
 {
     let call = call_at(calls, method.descriptor);
-    let first = first_frame(alloc, code.max_locals, is_static(method.access), call)?;
-    let table = told_frames(alloc, file, method, code, &first)?;
     let site = Site {
         linked: program.linked,
         class,
@@ -84,9 +108,10 @@ fn is_verified<'f>(
         gives: call.gives,
         exceptions: program.exceptions,
     };
-    // Code of linked files is short.
-    let _ = program.linked.count();
-    judge(alloc, site, first, table)
+    let first = first_frame(alloc, code.max_locals, is_static(method.access), call)?;
+    let fits = fits_from(alloc, site, file, place, method, &first);
+    drop(first);
+    fits
 }
 
 /// Whether a method is verified, if it has code.

@@ -1,60 +1,21 @@
-use Rattle.std.proofs.Common.{◌≡◌, suc, ◌+◌, ◌∷◌, None, replicate, length, drop, drop-cons, sym, ap}
-use Rattle.std.proofs.Common.{subst, ◌∙◌, arith}
-use Rattle.std.proofs.lemmas.List.{drop_all, length-replicate}
-use Rattle.par_frame_steps.specs.Marks.{kinds_of, frame_of}
+use Rattle.std.proofs.Common.{◌≡◌, ◌∙◌, ap, sym, subst, replicate, rules, IfSome, None}
+use Rattle.std.proofs.lemmas.List.{take_at}
+use Rattle.par_given_frames.specs.par_frames.Given.{frames_said}
+use Rattle.par_frame_steps.specs.Marks.{kinds_of}
 use Rattle.par_frame_passes.specs.Tables.{table_of}
-use Rattle.par_verify.proofs.Folding.{Tells, begun, one_more, ended, if-said}
+use Rattle.par_verify_laws.specs.par_frame_pass_laws.Passes.{start_table}
+use Rattle.par_verify.specs.Starts.{told_of}
 use Rattle.par_verify.proofs.begun.told_table.Goals as goal
 
-pub loop-form-init : goal.loop-form-init
-loop-form-init c =
-    let blank = c.in_ok-table.ensures ∙ ap (λ n. replicate n None) c.len.ensures in
-    record {
-      many =
-          ap length c.in_ok-table.ensures ∙ length-replicate c.len.result None ∙ c.len.ensures;
-      near = omega arith;
-      told = λ all said.
-          begun c.args.entries.now c.args.code.now.max_locals c.args.code.now.code all
-          (kinds_of c.args.start) c.args.forms.now c.in_ok-table.table.items blank said;
-    }
+pub tell_forms-requires-clause-blank : goal.tell_forms-requires-clause-blank
+tell_forms-requires-clause-blank c =
+    c.as_mut_slice.ensures.value ∙ c.in_ok-table.ensures
+    ∙ ap (λ n. replicate n None) c.len.ensures
 
-pub loop-form-preserved : goal.loop-form-preserved
-loop-form-preserved c =
-    let forms = c.args.forms.now in
-    let i = c.loop-form.form-index in
-    let form = c.form-item.result in
-    let from = c.loop-form.from in
-    let at = from + c.from.result in
-    let next : suc i ≡ i + 1 = omega arith in
-    let split : drop i forms ≡ form ∷ drop (i + 1) forms =
-    drop-cons forms i form c.loop-form-test.true
-    ∙ ap (λ f. f ∷ drop (suc i) forms) (sym c.form-item.is)
-    ∙ ap (λ n. form ∷ drop n forms) next in
-    let near = c.loop-form.invariant.near in
-    let short = c.from.ensures in
-    record {
-      many = c.keep.ensures.many ∙ c.loop-form.invariant.many;
-      near = omega (arith, near, short);
-      told = λ all said.
-          one_more c.args.entries.now c.args.code.now.max_locals c.args.code.now.code all form
-          (drop (i + 1) forms) from at (kinds_of c.loop-form.listed)
-          (kinds_of c.in_ok-listed.listed) (table_of c.loop-form.table.items)
-          (table_of c.keep.new.table.items) (frame_of c.in_ok-frame.frame)
-          (ap (λ n. from + n) (c.from.ensures ∙ c.delta.ensures)) c.in_ok-listed.ensures
-          c.in_ok-frame.ensures c.keep.ensures.kept
-          (subst (λ fs. Tells c.args.entries.now c.args.code.now.max_locals
-          c.args.code.now.code all from (kinds_of c.loop-form.listed) fs
-          (table_of c.loop-form.table.items)) split (c.loop-form.invariant.told all said));
-    }
-
-pub returns-clause-told : goal.returns-clause-told
-returns-clause-told c =
-    let pool = c.args.entries.now in
+pub returns-in-Ok-clause-told : goal.returns-in-Ok-clause-told
+returns-in-Ok-clause-told c =
     let code = c.args.code.now in
-    let i = c.loop-form.form-index in
-    let listed = kinds_of c.loop-form.listed in
-    let table = table_of c.loop-form.table.items in
-    if-said _ _
-    (λ all said. ended pool code.max_locals code.code all c.loop-form.from listed table
-    (subst (λ fs. Tells pool code.max_locals code.code all c.loop-form.from listed fs table)
-    (drop_all i c.args.forms.now c.loop-form-test.false) (c.loop-form.invariant.told all said)))
+    subst (λ t. IfSome (frames_said c.args.entries.now 0 (kinds_of c.args.start.now)
+    c.args.forms.now)
+    (λ frames. table_of t ≡ start_table (told_of code.max_locals frames) 0 code.code))
+    (sym (take_at c.tell_forms.new.table _ c.in_ok-table.table.len (search rules))) c.in-Ok.ensures

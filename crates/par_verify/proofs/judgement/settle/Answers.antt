@@ -1,6 +1,5 @@
-use Rattle.std.proofs.Common.{sym, ap, ◌∙◌}
+use Rattle.std.proofs.Common.{refl, sym, ◌∙◌}
 use Rattle.std.proofs.lemmas.Result.{IfOk-weaker}
-use Rattle.par_verify_laws.specs.par_frame_pass_laws.Passes.{are_sized}
 use Rattle.par_frame_passes.specs.par_frame_guesses.Methods.{exc_of, act_in, handler_in}
 use Rattle.par_frame_passes.specs.par_frame_guesses.Methods.{code_in}
 use Rattle.par_frame_passes.specs.Tables.{table_of}
@@ -11,20 +10,17 @@ pub returns-then-not-are_sized : goal.returns-then-not-are_sized
 returns-then-not-are_sized c =
     let m = c.args.method.now in
     λ start first told begins within same. unsized (exc_of m) (act_in m) (handler_in m)
-    (code_in m) start
-    (table_of c.args.table.items)
-    (ap (λ t. are_sized (code_in m) 0 (table_of t)) (sym c.deref.ensures.value)
-    ∙ sym (c.are_sized.ensures start told) ∙ c.if-not-are_sized.true)
+    (code_in m) start (table_of c.args.table.now)
+    (sym (c.are_sized.ensures start told) ∙ c.if-not-are_sized.true)
 
 pub returns : goal.returns
 returns c =
     let m = c.args.method.now in
     let code = code_in m in
+    let t = table_of c.args.table.now in
     IfOk-weaker c.passes.result _ _
     (λ found is. λ start first told begins within same.
-    settled (exc_of m) (act_in m) (handler_in m) code start first begins within
-    (table_of c.args.table.items) (table_of c.as_mut_slice.result.now) found same
-    (ap (λ t. are_sized code 0 (table_of t)) (sym c.deref.ensures.value)
-    ∙ sym (c.are_sized.ensures start told) ∙ c.if-not-are_sized.false)
-    (ap table_of c.as_mut_slice.ensures.value) (is start first told begins))
+    settled (exc_of m) (act_in m) (handler_in m) code start first begins within t t found same
+    (sym (c.are_sized.ensures start told) ∙ c.if-not-are_sized.false) refl
+    (is start first told begins))
     c.passes.ensures
