@@ -64,6 +64,22 @@ fn unfilled(source: &[u8], error: InferError) -> Failure
     }
 }
 
+/// The lines of the policies that are inferred for the program of a source.
+fn lines_for(alloc: Global, source: &[u8], typed: &Typed) -> Result<Vec<Vec<u8>>, Failure>
+    requires short { length source.now ≤ LONGEST_SOURCE }
+    requires typed { IsTypedAs source.now typed.now }
+    requires ready { IsReady typed.now }
+    requires placed { ChecksLie (length source.now) typed.now }
+    ensures filled { IfOk result (λ lines. IsFilledAs source.now (texts_of lines.items)) }
+    ensures failed { IfErr result (IsFailure (IsUnfilled source.now)) }
+{
+    let filling = filled(alloc, source, typed)?;
+    match filling_lines(alloc, &typed.table, filling.fields.as_slice()) {
+        Ok(lines) => Ok(lines),
+        Err(_) => Err(Failure::Memory),
+    }
+}
+
 /// The lines of the policies that are inferred for a source.
 fn inferred(alloc: Global, source: &[u8]) -> Result<Vec<Vec<u8>>, Failure>
     requires { length source.now ≤ LONGEST_SOURCE }
@@ -71,11 +87,9 @@ fn inferred(alloc: Global, source: &[u8]) -> Result<Vec<Vec<u8>>, Failure>
     ensures failed { IfErr result (IsFailure (IsUnfilled source.now)) }
 {
     let typed = typed(alloc, source)?;
-    let filling = filled(alloc, source, &typed)?;
-    match filling_lines(alloc, &typed.table, filling.fields.as_slice()) {
-        Ok(lines) => Ok(lines),
-        Err(_) => Err(Failure::Memory),
-    }
+    let lines = lines_for(alloc, source, &typed);
+    drop(typed);
+    lines
 }
 
 /// The lines of the policies that are inferred for the source in a file.

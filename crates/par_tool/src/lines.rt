@@ -37,3 +37,15 @@ pub fn tell_lines<S: Sink>(lines: &[Vec<u8>], out: &mut S) -> u8
         Err(untold) => untold_status(untold),
     }
 }
+
+/// The same of lines that nobody asks for behind this.
+pub fn tell_all<S: Sink>(lines: Vec<Vec<u8>>, out: &mut S) -> u8
+    ensures said { Said 0 (texts_of lines.items) result
+        (S.held out.old) (S.held out.new) (S.counts out.old) (S.counts out.new) }
+    ensures failed_puts_are_told { IsTrue S.counts_faults_alone →
+        result ≢ 6 → (S.counts out.new).faults ≡ (S.counts out.old).faults }
+{
+    let status = tell_lines(lines.as_slice(), out);
+    drop(lines);
+    status
+}

@@ -133,6 +133,20 @@ pub fn class_files(alloc: Global, typed: &Typed) -> Result<List<CompiledClass>, 
     Ok(classes)
 }
 
+/// The same of a program that nobody asks for behind this.
+fn classes_of(alloc: Global, typed: Typed) -> Result<List<CompiledClass>, Failure>
+    requires accepted { (source : Text) × IsSecureAs source typed }
+    requires well_formed { IsWellFormed typed }
+    ensures are { IfOk result (AreClassesOf typed) }
+    ensures apart { IfOk result (λ classes. IsDistinct bytes_eq (map (λ c. c.name) classes)) }
+    ensures few { IfOk result (λ classes. length classes ≤ MOST_FILES) }
+    ensures memory { IfErr result (λ e. e ≡ Failure.Memory) }
+{
+    let classes = class_files(alloc, &typed);
+    drop(typed);
+    classes
+}
+
 /// Compiles the source in a file, and writes its class files once all of them are made.
 pub fn compile_file<F: Folder>(alloc: Global, folder: &mut F, file: &str) -> Result<Answer, Failure>
     ensures faults_are_told { IsTrue F.counts_faults_alone →
@@ -147,7 +161,7 @@ pub fn compile_file<F: Folder>(alloc: Global, folder: &mut F, file: &str) -> Res
         × MakesAtMost 1 MOST_FILES (F.counts folder.old) (F.counts folder.new)) }
 {
     let typed = program_source(alloc, folder, file)?;
-    let classes = class_files(alloc, &typed)?;
+    let classes = classes_of(alloc, typed)?;
     match write_classes(alloc, folder, classes.as_slice()) {
         Ok(()) => Ok(Answer::Compiled(classes.len() as u32)),
         Err(WriteFail::Failed) => Err(Failure::Answered(Answer::WriteFault)),

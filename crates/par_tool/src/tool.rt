@@ -16,7 +16,7 @@ use crate::answer::{Answer, say};
 use crate::audits::audit_source;
 use crate::classes::started;
 use crate::inferences::infer_source;
-use crate::lines::tell_lines;
+use crate::lines::tell_all;
 use crate::reads::Failure;
 use crate::samples::make_sample;
 use crate::sources::{check, compile_file};
@@ -72,15 +72,15 @@ pub fn tool<F: Folder, S: Sink>(
             inputs,
             bound,
         } => match trace_source(alloc, folder, file, inputs, bound) {
-            Ok(traced) => tell_trace(alloc, &traced, out),
+            Ok(traced) => tell_trace(alloc, traced, out),
             Err(failure) => break_off(alloc, failure, out),
         },
         Request::Audit { actor, file } => match audit_source(alloc, folder, actor, file) {
-            Ok(lines) => tell_lines(lines.as_slice(), out),
+            Ok(lines) => tell_all(lines, out),
             Err(failure) => break_off(alloc, failure, out),
         },
         Request::Infer(file) => match infer_source(alloc, folder, file) {
-            Ok(lines) => tell_lines(lines.as_slice(), out),
+            Ok(lines) => tell_all(lines, out),
             Err(failure) => break_off(alloc, failure, out),
         },
         Request::Run {
@@ -95,14 +95,16 @@ pub fn tool<F: Folder, S: Sink>(
 }
 
 /// Tells of the run of a source.
-fn tell_trace<S: Sink>(alloc: Global, traced: &Traced, out: &mut S) -> u8
-    ensures said { let run = run_of traced.now.run in
-        Said (told.status (Fine run.ending)) (lines traced.now.typed.table run) result
+fn tell_trace<S: Sink>(alloc: Global, traced: Traced, out: &mut S) -> u8
+    ensures said { let run = run_of traced.run in
+        Said (told.status (Fine run.ending)) (lines traced.typed.table run) result
         (S.held out.old) (S.held out.new) (S.counts out.old) (S.counts out.new) }
     ensures failed_puts_are_told { IsTrue S.counts_faults_alone →
         result ≢ 6 → (S.counts out.new).faults ≡ (S.counts out.old).faults }
 {
-    tell_source(alloc, &traced.typed.table, &traced.run, out)
+    let status = tell_source(alloc, &traced.typed.table, &traced.run, out);
+    drop(traced);
+    status
 }
 
 /// Says what a job came to.

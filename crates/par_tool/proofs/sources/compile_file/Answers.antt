@@ -4,12 +4,12 @@ use Rattle.par_tool.proofs.Compiling.{all_written, one_failed, cut_short}
 use Rattle.par_tool.proofs.sources.compile_file.Goals as goal
 
 -- the source that was read is accepted as this program
-pub class_files-requires-clause-accepted : goal.class_files-requires-clause-accepted
-class_files-requires-clause-accepted g c =
+pub classes_of-requires-clause-accepted : goal.classes_of-requires-clause-accepted
+classes_of-requires-clause-accepted g c =
     let read = c.in_ok-typed.ensures.accepted in (read.0, read.2)
 
-pub class_files-requires-clause-well_formed : goal.class_files-requires-clause-well_formed
-class_files-requires-clause-well_formed g c = c.in_ok-typed.ensures.well_formed
+pub classes_of-requires-clause-well_formed : goal.classes_of-requires-clause-well_formed
+classes_of-requires-clause-well_formed g c = c.in_ok-typed.ensures.well_formed
 
 pub write_classes-requires : goal.write_classes-requires
 write_classes-requires g c =

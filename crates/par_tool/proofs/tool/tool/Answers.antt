@@ -82,11 +82,10 @@ returns-in-Err-trace_source-clause-ends g c =
 pub returns-in-Ok-audit_source-clause-ends : goal.returns-in-Ok-audit_source-clause-ends
 returns-in-Ok-audit_source-clause-ends g c =
     let asks = rw c.in-Audit.is at c.in-Ok.ensures in
-    let said = rw c.as_slice.ensures.value at c.tell_lines.ensures.said in
     audit_ends _ _ _ _ _ _ _ _ c.in-Audit.actor.now c.in-Audit.file.now
     (texts_of c.in-Ok-audit_source.lines.items) asks
     c.in-Ok-audit_source.ensures.counted c.in-Ok-audit_source.ensures.kept
-    c.in-Ok-audit_source.ensures.audited said
+    c.in-Ok-audit_source.ensures.audited c.tell_all.ensures.said
 
 pub returns-in-Err-audit_source-clause-ends : goal.returns-in-Err-audit_source-clause-ends
 returns-in-Err-audit_source-clause-ends g c =
@@ -99,12 +98,10 @@ returns-in-Err-audit_source-clause-ends g c =
 pub returns-in-Ok-infer_source-clause-ends : goal.returns-in-Ok-infer_source-clause-ends
 returns-in-Ok-infer_source-clause-ends g c =
     let asks = rw c.in-Infer.is at c.in-Ok.ensures in
-    let said = rw c.as_slice-in-Ok-infer_source.ensures.value at
-    c.tell_lines-in-Ok-infer_source.ensures.said in
     infer_ends _ _ _ _ _ _ _ _ c.in-Infer.file.now
     (texts_of c.in-Ok-infer_source.lines.items) asks
     c.in-Ok-infer_source.ensures.counted c.in-Ok-infer_source.ensures.kept
-    c.in-Ok-infer_source.ensures.filled said
+    c.in-Ok-infer_source.ensures.filled c.tell_all-in-Ok-infer_source.ensures.said
 
 pub returns-in-Err-infer_source-clause-ends : goal.returns-in-Err-infer_source-clause-ends
 returns-in-Err-infer_source-clause-ends g c =
