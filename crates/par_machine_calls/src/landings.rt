@@ -74,19 +74,34 @@ fn lands(
     landing: Option<Landing>,
 ) -> Result<bool, NoMemory> {
     let stack = stack(alloc, caller)?;
-    Ok(landing_of(linked, &stack, thrown) == landing)
+    let lands = landing_of(linked, &stack, thrown) == landing;
+    drop(stack);
+    Ok(lands)
+}
+
+fn check_landings(alloc: Global, linked: &Linked) -> Result<(), Fail> {
+    for (name, caller, thrown, landing) in LANDINGS {
+        let lands = lands(alloc, linked, *caller, *thrown, *landing)?;
+        expect(lands, name)?;
+    }
+    Ok(())
 }
 
 #[test]
 fn exceptions_go_to_their_handlers(rt: HostRuntime) -> Result<(), Fail> {
     let linked = linked(rt.alloc(), SHOP)?;
-    for (name, caller, thrown, landing) in LANDINGS {
-        expect(
-            lands(rt.alloc(), &linked, *caller, *thrown, *landing)?,
-            name,
-        )?;
-    }
-    Ok(())
+    let checked = check_landings(rt.alloc(), &linked);
+    drop(linked);
+    checked
+}
+
+// The exception of null.
+const EXCEPTION: MVal = MVal::Ref(NULL_POINTER, 0);
+
+// Whether the caller stands at its handler, and has the exception as its only operand.
+fn is_landed(stack: &Stack) -> bool {
+    let places = stack.places() == [Some(EXCEPTION)].as_slice();
+    stack.depth() == 1 && stack.point() == HANDLER && places
 }
 
 fn frame_is_dropped(alloc: Global) -> Result<bool, NoMemory> {
@@ -95,10 +110,10 @@ fn frame_is_dropped(alloc: Global) -> Result<bool, NoMemory> {
         above: 1,
         point: HANDLER,
     };
-    let exception = MVal::Ref(NULL_POINTER, 0);
-    land(&mut stack, landing, exception);
-    let places = stack.places() == [Some(exception)].as_slice();
-    Ok(stack.depth() == 1 && stack.point() == HANDLER && places)
+    land(&mut stack, landing, EXCEPTION);
+    let is_landed = is_landed(&stack);
+    drop(stack);
+    Ok(is_landed)
 }
 
 #[test]

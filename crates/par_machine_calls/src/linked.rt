@@ -1,9 +1,11 @@
 ghost use Rattle.std.specs.Prelude.{◌≡◌, IfOk, IsTrue};
 ghost use Rattle.par_loader.specs.Judged.{begins};
 
+use par_inputs::read_inputs;
 use par_io::{MemFolder, NoMemory};
 use par_link::Linked;
 use par_loader::{Unloaded, linked_program, main_file};
+use par_values::inputs::Inputs;
 use std::alloc::Global;
 use std::test::Fail;
 
@@ -34,14 +36,22 @@ fn folder(alloc: Global, shop: &[u8]) -> Result<MemFolder, NoMemory> {
     Ok(folder)
 }
 
+fn loaded_from(alloc: Global, folder: &mut MemFolder) -> Result<Linked, Unloaded>
+    ensures { IfOk result (λ linked. IsTrue (begins linked)) }
+{
+    let file = main_file(alloc, folder, "Shop")?;
+    linked_program(alloc, folder, file)
+}
+
 fn loaded(alloc: Global, shop: &[u8]) -> Result<Linked, Unloaded>
     ensures { IfOk result (λ linked. IsTrue (begins linked)) }
 {
     let Ok(mut folder) = folder(alloc, shop) else {
         return Err(Unloaded::Memory);
     };
-    let file = main_file(alloc, &mut folder, "Shop")?;
-    linked_program(alloc, &mut folder, file)
+    let loaded = loaded_from(alloc, &mut folder);
+    drop(folder);
+    loaded
 }
 
 /// The files of a class `Shop`, which link.
@@ -51,5 +61,13 @@ pub fn linked(alloc: Global, shop: &[u8]) -> Result<Linked, Fail>
     match loaded(alloc, shop) {
         Ok(linked) => Ok(linked),
         Err(_) => Err(Fail::new("the files link")),
+    }
+}
+
+/// Inputs that give the number 7 to the channel `ask`.
+pub fn asked(alloc: Global) -> Result<Inputs, Fail> {
+    match read_inputs(alloc, b"Shop.ask: 7\n") {
+        Ok(inputs) => Ok(inputs),
+        Err(_) => Err(Fail::new("the line is right")),
     }
 }

@@ -1,4 +1,4 @@
-ghost use Rattle.std.specs.Prelude.{◌≡◌, IfOk, IsTrue};
+ghost use Rattle.std.specs.Prelude.{◌≡◌, ◌+◌, ◌<◌, IfOk, IsTrue};
 ghost use Rattle.par_loader.specs.Judged.{begins};
 ghost use Rattle.par_machine.specs.Machine.{steps_of};
 
@@ -90,21 +90,34 @@ fn shop(alloc: Global) -> Result<Machine, Fail>
     Ok(machine(alloc, linked, Inputs { channels })?)
 }
 
-// The machine after so many instructions, none of which ends the run.
-fn after(alloc: Global, steps: u8) -> Result<Machine, Fail> {
-    let mut machine = shop(alloc)?;
+// Runs an instruction, and tells whether the run goes on and shows nothing.
+fn is_silent(machine: &mut Machine) -> bool
+    requires { steps_of machine.old < 4000000000 }
+    ensures { steps_of machine.new ≡ steps_of machine.old + 1 }
+{
+    let turn = machine.step();
+    let is_silent = matches!(&turn, Ok(Turn::Silent));
+    drop(turn);
+    is_silent
+}
+
+// Runs so many instructions, none of which ends the run.
+fn go(machine: &mut Machine, steps: u8) -> Result<(), Fail>
+    requires { steps_of machine.old ≡ 0 }
+{
     for _step in 0..steps {
-        match machine.step() {
-            Ok(Turn::Silent) => {}
-            _ => return Err(Fail::new("the run goes on")),
-        }
+        expect(is_silent(machine), "the run goes on")?;
     }
-    Ok(machine)
+    Ok(())
 }
 
 fn places_are(alloc: Global, steps: u8, places: &[Option<MVal>]) -> Result<bool, Fail> {
-    let machine = after(alloc, steps)?;
-    Ok(machine.places() == places)
+    let mut machine = shop(alloc)?;
+    let went = go(&mut machine, steps);
+    let are_these = machine.places() == places;
+    drop(machine);
+    went?;
+    Ok(are_these)
 }
 
 #[test]

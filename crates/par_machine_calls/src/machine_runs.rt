@@ -1,15 +1,13 @@
-ghost use Rattle.std.specs.Prelude.{◌≡◌, IfOk, IsTrue};
+ghost use Rattle.std.specs.Prelude.{◌≡◌, ◌+◌, ◌<◌, IfOk, IsTrue};
 ghost use Rattle.par_loader.specs.Judged.{begins};
 ghost use Rattle.par_machine.specs.Machine.{steps_of};
 
-use crate::linked::linked;
+use crate::linked::{asked, linked};
+use crate::linked_files::fits;
 use crate::machine_places;
-use par_base::list::List;
-use par_base::name::Name;
-use par_link::{Linked, inputs_fit};
+use par_link::Linked;
 use par_machine::machine::Machine;
 use par_machine::turn::{Stuck, Turn};
-use par_values::inputs::{ChannelInput, Inputs};
 use par_values::run::{Ending, Event, Val};
 use par_values::value::MVal;
 use par_worked::expect;
@@ -89,30 +87,9 @@ fn linked_with(alloc: Global, code: &[u8]) -> Result<Linked, Fail>
     ensures { IfOk result (λ linked. IsTrue (begins linked)) }
 {
     let bytes = bytes_with(alloc, code)?;
-    linked(alloc, bytes.as_slice())
-}
-
-// A line that gives the number 7 to a channel of `Shop`.
-fn line(alloc: Global, channel: Name) -> Result<ChannelInput, Fail> {
-    let class = Name::new(alloc, b"Shop")?;
-    let mut numbers = List::new(alloc);
-    numbers.push(7)?;
-    Ok(ChannelInput {
-        class,
-        channel,
-        numbers,
-    })
-}
-
-fn inputs(alloc: Global, channel: Name) -> Result<Inputs, Fail> {
-    let line = line(alloc, channel)?;
-    let mut channels = List::new(alloc);
-    channels.push(line)?;
-    Ok(Inputs { channels })
-}
-
-fn asked(alloc: Global) -> Result<Inputs, Fail> {
-    inputs(alloc, Name::new(alloc, b"ask")?)
+    let linked = linked(alloc, bytes.as_slice());
+    drop(bytes);
+    linked
 }
 
 // A machine for `Shop` with this code of `main`, where it links.
@@ -143,20 +120,74 @@ fn note(event: &Event, numbers: &mut Vec<i32>) -> Result<(), Fail> {
     }
 }
 
+// How a run goes on behind a step.
+#[derive(Clone, Copy)]
+enum Way {
+    On,
+    Ended,
+    // It is met by bad code: the offset, and the number of the reason.
+    Bad(u32, u8),
+}
+
+fn way_of_turn(turn: &Turn, numbers: &mut Vec<i32>) -> Result<Way, Fail> {
+    match turn {
+        Turn::Silent => Ok(Way::On),
+        Turn::Happened(event) => {
+            note(event, numbers)?;
+            Ok(Way::On)
+        }
+        Turn::Ended(Ending::End) => Ok(Way::Ended),
+        Turn::Ended(_) => Err(Fail::new("the run ends")),
+    }
+}
+
+fn way_of(step: &Result<Turn, Stuck>, numbers: &mut Vec<i32>) -> Result<Way, Fail> {
+    match step {
+        Ok(turn) => way_of_turn(turn, numbers),
+        Err(Stuck::BadCode { offset, reason, .. }) => Ok(Way::Bad(*offset, *reason)),
+        Err(Stuck::Memory) => Err(Fail::new("the run ends")),
+    }
+}
+
+// Runs an instruction, and notes what it shows.
+fn way_behind_step(machine: &mut Machine, numbers: &mut Vec<i32>) -> Result<Way, Fail>
+    requires { steps_of machine.old < 4000000000 }
+    ensures { steps_of machine.new ≡ steps_of machine.old + 1 }
+{
+    let step = machine.step();
+    let way = way_of(&step, numbers);
+    drop(step);
+    way
+}
+
 // Runs to the end, and answers where bad code is met.
 fn run(machine: &mut Machine, numbers: &mut Vec<i32>) -> Result<Option<(u32, u8)>, Fail>
     requires { steps_of machine.old ≡ 0 }
 {
     for _step in 0..MOST {
-        match machine.step() {
-            Ok(Turn::Silent) => {}
-            Ok(Turn::Happened(event)) => note(&event, numbers)?,
-            Ok(Turn::Ended(Ending::End)) => return Ok(None),
-            Err(Stuck::BadCode { offset, reason, .. }) => return Ok(Some((offset, reason))),
-            _ => return Err(Fail::from("the run ends")),
+        match way_behind_step(machine, numbers)? {
+            Way::On => {}
+            Way::Ended => return Ok(None),
+            Way::Bad(offset, reason) => return Ok(Some((offset, reason))),
         }
     }
-    Err(Fail::from("the run is short"))
+    Err(Fail::new("the run is short"))
+}
+
+// Whether the machine makes these events, and meets bad code there.
+fn makes(
+    alloc: Global,
+    machine: &mut Machine,
+    expected: &[i32],
+    bad: Option<(u32, u8)>,
+) -> Result<bool, Fail>
+    requires { steps_of machine.old ≡ 0 }
+{
+    let mut numbers = Vec::new(alloc);
+    let met = run(machine, &mut numbers);
+    let are_these = numbers.as_slice() == expected;
+    drop(numbers);
+    Ok(met? == bad && are_these)
 }
 
 // Whether the code makes these events, and bad code is met there.
@@ -167,9 +198,9 @@ fn code_makes(
     bad: Option<(u32, u8)>,
 ) -> Result<bool, Fail> {
     let mut machine = machine(alloc, code)?;
-    let mut numbers = Vec::new(alloc);
-    let met = run(&mut machine, &mut numbers)?;
-    Ok(met == bad && numbers.as_slice() == expected)
+    let makes = makes(alloc, &mut machine, expected, bad);
+    drop(machine);
+    makes
 }
 
 #[test]
@@ -254,7 +285,14 @@ const GOES: &[(&str, &[u8], u32, u32, &[Option<MVal>])] = &[
     ("bad code", b"\x60\xb1", MOST, 0, &[NONE, NONE, NONE]),
 ];
 
-// Whether so many instructions of the code are run, and leave these places.
+// Whether so many instructions are run, and leave these places.
+fn goes(machine: &mut Machine, most: u32, many: u32, places: &[Option<MVal>]) -> bool
+    requires { steps_of machine.old ≡ 0 }
+{
+    let went = machine.go_on(most.min(MOST));
+    went == many && machine.places() == places
+}
+
 fn code_goes(
     alloc: Global,
     code: &[u8],
@@ -263,8 +301,9 @@ fn code_goes(
     places: &[Option<MVal>],
 ) -> Result<bool, Fail> {
     let mut machine = machine(alloc, code)?;
-    let went = machine.go_on(most.min(MOST));
-    Ok(went == many && machine.places() == places)
+    let goes = goes(&mut machine, most, many, places);
+    drop(machine);
+    Ok(goes)
 }
 
 #[test]
@@ -275,23 +314,15 @@ fn code_goes_on(rt: HostRuntime) -> Result<(), Fail> {
     Ok(())
 }
 
+// The line of a channel of the class, and its place where it does not fit.
 const CHANNELS: &[(&str, &[u8], Option<u32>)] = &[
-    ("an input fits", b"ask", None),
-    ("an output does not", b"show", Some(0)),
+    ("an input fits", b"Shop.ask: 7\n", None),
+    ("an output does not", b"Shop.show: 7\n", Some(0)),
 ];
 
-// Whether an input for this channel of the class fits.
-fn fits(alloc: Global, linked: &Linked, channel: &[u8], unfit: Option<u32>) -> Result<bool, Fail> {
-    if !Name::is_name(channel) {
-        return Ok(false);
-    }
-    let inputs = inputs(alloc, Name::new(alloc, channel)?)?;
-    Ok(inputs_fit(linked, &inputs) == unfit)
-}
-
 fn check_channels(alloc: Global, linked: &Linked) -> Result<(), Fail> {
-    for (name, channel, unfit) in CHANNELS {
-        expect(fits(alloc, linked, channel, *unfit)?, name)?;
+    for (name, line, unfit) in CHANNELS {
+        expect(fits(alloc, linked, line, *unfit), name)?;
     }
     Ok(())
 }
@@ -299,5 +330,7 @@ fn check_channels(alloc: Global, linked: &Linked) -> Result<(), Fail> {
 #[test]
 fn channels_are_looked_for(rt: HostRuntime) -> Result<(), Fail> {
     let linked = linked_with(rt.alloc(), b"\xb1")?;
-    check_channels(rt.alloc(), &linked)
+    let checked = check_channels(rt.alloc(), &linked);
+    drop(linked);
+    checked
 }

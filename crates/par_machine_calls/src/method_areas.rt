@@ -1,18 +1,22 @@
-use crate::linked::{SHOP, linked};
+use crate::linked::{SHOP, asked, linked};
 use par_actions::{Callee, Class, Field, Fit, Gives, Target};
-use par_inputs::read_inputs;
-use par_method_area::{MethodArea, NamedField};
+use par_method_area::MethodArea;
+use par_values::inputs::Inputs;
 use par_values::value::MVal;
 use par_worked::expect;
 use std::alloc::Global;
 use std::test::Fail;
 
-fn area(alloc: Global) -> Result<MethodArea, Fail> {
-    let Ok(inputs) = read_inputs(alloc, b"Shop.ask: 7\n") else {
-        return Err(Fail::new("the line is right"));
-    };
+fn area_for(alloc: Global, inputs: &Inputs) -> Result<MethodArea, Fail> {
     let linked = linked(alloc, SHOP)?;
-    Ok(MethodArea::of(alloc, linked, &inputs)?)
+    Ok(MethodArea::of(alloc, linked, inputs)?)
+}
+
+fn area(alloc: Global) -> Result<MethodArea, Fail> {
+    let inputs = asked(alloc)?;
+    let area = area_for(alloc, &inputs);
+    drop(inputs);
+    area
 }
 
 // The length of the code of a method, its room, its locals, and what it gives.
@@ -31,13 +35,19 @@ fn code_told(area: &MethodArea, class: u16, method: u16) -> Option<Told> {
     Some((code.bytes.len(), code.room, code.locals, code.gives))
 }
 
+fn check_codes(area: &MethodArea) -> Result<(), Fail> {
+    for (name, class, method, told) in CODES {
+        expect(code_told(area, *class, *method) == *told, name)?;
+    }
+    Ok(())
+}
+
 #[test]
 fn codes_are_told(rt: HostRuntime) -> Result<(), Fail> {
     let area = area(rt.alloc())?;
-    for (name, class, method, told) in CODES {
-        expect(code_told(&area, *class, *method) == *told, name)?;
-    }
-    Ok(())
+    let checked = check_codes(&area);
+    drop(area);
+    checked
 }
 
 // Where instructions of `main` start, and where none does.
@@ -50,20 +60,32 @@ fn starts_at(area: &MethodArea, at: u32) -> bool {
     }
 }
 
-#[test]
-fn starts_are_told(rt: HostRuntime) -> Result<(), Fail> {
-    let area = area(rt.alloc())?;
+fn check_starts(area: &MethodArea) -> Result<(), Fail> {
     for (at, starts) in STARTS {
-        expect(starts_at(&area, *at) == *starts, "a start of `main`")?;
+        expect(starts_at(area, *at) == *starts, "a start of `main`")?;
     }
     Ok(())
 }
 
 #[test]
-fn numbers_are_told(rt: HostRuntime) -> Result<(), Fail> {
+fn starts_are_told(rt: HostRuntime) -> Result<(), Fail> {
     let area = area(rt.alloc())?;
+    let checked = check_starts(&area);
+    drop(area);
+    checked
+}
+
+fn check_numbers(area: &MethodArea) -> Result<(), Fail> {
     let number = area.number(0, 34) == Some(70000);
     expect(number && area.number(0, 2).is_none(), "a number alone")
+}
+
+#[test]
+fn numbers_are_told(rt: HostRuntime) -> Result<(), Fail> {
+    let area = area(rt.alloc())?;
+    let checked = check_numbers(&area);
+    drop(area);
+    checked
 }
 
 // The owner of a field, the field, and whether it is that of a lock.
@@ -112,17 +134,24 @@ const FIELDS: &[(&str, u16, Option<ToldField>)] = &[
     ("a method", 8, None),
 ];
 
-fn told(named: NamedField) -> ToldField {
-    (named.owner, named.field, named.is_lock)
+fn field_told(area: &MethodArea, index: u16) -> Option<ToldField> {
+    let named = area.field(0, index)?;
+    Some((named.owner, named.field, named.is_lock))
+}
+
+fn check_fields(area: &MethodArea) -> Result<(), Fail> {
+    for (name, index, field) in FIELDS {
+        expect(field_told(area, *index) == *field, name)?;
+    }
+    Ok(())
 }
 
 #[test]
 fn fields_are_told(rt: HostRuntime) -> Result<(), Fail> {
     let area = area(rt.alloc())?;
-    for (name, index, field) in FIELDS {
-        expect(area.field(0, *index).map(told) == *field, name)?;
-    }
-    Ok(())
+    let checked = check_fields(&area);
+    drop(area);
+    checked
 }
 
 // The number of a class, how many fields an object has, whether it is an exception, and whether one
@@ -159,7 +188,9 @@ fn check_classes(area: &MethodArea) -> Result<(), Fail> {
 #[test]
 fn classes_are_told(rt: HostRuntime) -> Result<(), Fail> {
     let area = area(rt.alloc())?;
-    check_classes(&area)
+    let checked = check_classes(&area);
+    drop(area);
+    checked
 }
 
 // Whether a method is static, how many arguments it takes, whether it gives a result, and what it
@@ -202,13 +233,19 @@ fn callee_told(area: &MethodArea, index: u16) -> Option<ToldCallee> {
     ))
 }
 
+fn check_callees(area: &MethodArea) -> Result<(), Fail> {
+    for (name, index, callee) in CALLEES {
+        expect(callee_told(area, *index) == *callee, name)?;
+    }
+    Ok(())
+}
+
 #[test]
 fn methods_are_told(rt: HostRuntime) -> Result<(), Fail> {
     let area = area(rt.alloc())?;
-    for (name, index, callee) in CALLEES {
-        expect(callee_told(&area, *index) == *callee, name)?;
-    }
-    Ok(())
+    let checked = check_callees(&area);
+    drop(area);
+    checked
 }
 
 fn check_names(area: &MethodArea) -> Result<(), Fail> {
@@ -228,7 +265,9 @@ fn check_names(area: &MethodArea) -> Result<(), Fail> {
 #[test]
 fn names_are_handed_out(rt: HostRuntime) -> Result<(), Fail> {
     let area = area(rt.alloc())?;
-    check_names(&area)
+    let checked = check_names(&area);
+    drop(area);
+    checked
 }
 
 fn check_first(area: &MethodArea) -> Result<(), Fail> {
@@ -241,5 +280,7 @@ fn check_first(area: &MethodArea) -> Result<(), Fail> {
 #[test]
 fn first_values_are_told(rt: HostRuntime) -> Result<(), Fail> {
     let area = area(rt.alloc())?;
-    check_first(&area)
+    let checked = check_first(&area);
+    drop(area);
+    checked
 }
