@@ -106,12 +106,16 @@ pub fn are_items(items: &[Item], wanted: &[Wanted]) -> bool {
 
 fn program(alloc: Global, body: &[u8]) -> Result<Plain, Fail> {
     let typed = with_main(alloc, BEFORE, body)?;
-    Ok(erase(alloc, &typed)?)
+    let plain = erase(alloc, &typed);
+    drop(typed);
+    Ok(plain?)
 }
 
 pub fn code(alloc: Global, body: &[u8]) -> Result<Labelled, Fail> {
     let plain = program(alloc, body)?;
-    Ok(code_of(alloc, &plain, SHOP, MAIN)?)
+    let code = code_of(alloc, &plain, SHOP, MAIN);
+    drop(plain);
+    Ok(code?)
 }
 
 // The numbers of classes, and of methods there.
@@ -573,13 +577,23 @@ fn check_code(code: &Labelled, row: &Row) -> Result<(), Fail> {
     expect(are_items(code.items.as_slice(), row.items), "the items")
 }
 
-#[test]
-fn bodies_have_these_items(rt: HostRuntime) -> Result<(), Fail> {
-    for row in ROWS {
-        let code = code(rt.alloc(), row.body)?;
-        check_code(&code, row)?;
+fn check_row(alloc: Global, row: &Row) -> Result<(), Fail> {
+    let code = code(alloc, row.body)?;
+    let checked = check_code(&code, row);
+    drop(code);
+    checked
+}
+
+fn check_rows(alloc: Global, rows: &[Row]) -> Result<(), Fail> {
+    for row in rows {
+        check_row(alloc, row)?;
     }
     Ok(())
+}
+
+#[test]
+fn bodies_have_these_items(rt: HostRuntime) -> Result<(), Fail> {
+    check_rows(rt.alloc(), ROWS)
 }
 
 const CAUGHT: &[u8] = b"int a = 1; try { shut(); } catch (Bad e) { int b = 2; while (true) { } }";
@@ -635,7 +649,9 @@ fn check_caught(code: &Labelled) -> Result<(), Fail> {
 #[test]
 fn a_catch_has_a_handler_and_a_frame(rt: HostRuntime) -> Result<(), Fail> {
     let code = code(rt.alloc(), CAUGHT)?;
-    check_caught(&code)
+    let checked = check_caught(&code);
+    drop(code);
+    checked
 }
 
 const TAKEN: &[Wanted] = &[Wanted::Op(Instr::IloadShort(1)), Wanted::Op(Instr::Ireturn)];
@@ -651,6 +667,13 @@ fn is_start(start: &[Slot]) -> bool {
     }
 }
 
+fn code_of_take(alloc: Global) -> Result<Labelled, Fail> {
+    let plain = program(alloc, b"")?;
+    let code = code_of(alloc, &plain, ITEM, TAKE);
+    drop(plain);
+    Ok(code?)
+}
+
 fn check_take(code: &Labelled) -> Result<(), Fail> {
     expect(are_items(code.items.as_slice(), TAKEN), "the items")?;
     expect(code.max_locals == 2 && code.max_stack == 1, "the sizes")?;
@@ -659,9 +682,10 @@ fn check_take(code: &Labelled) -> Result<(), Fail> {
 
 #[test]
 fn a_receiver_is_the_first_local(rt: HostRuntime) -> Result<(), Fail> {
-    let plain = program(rt.alloc(), b"")?;
-    let code = code_of(rt.alloc(), &plain, ITEM, TAKE)?;
-    check_take(&code)
+    let code = code_of_take(rt.alloc())?;
+    let checked = check_take(&code);
+    drop(code);
+    checked
 }
 
 const NESTED: &[u8] =
@@ -684,7 +708,9 @@ fn check_nested(handlers: &[Handler]) -> Result<(), Fail> {
 #[test]
 fn handlers_of_an_inner_try_come_first(rt: HostRuntime) -> Result<(), Fail> {
     let code = code(rt.alloc(), NESTED)?;
-    check_nested(code.handlers.as_slice())
+    let checked = check_nested(code.handlers.as_slice());
+    drop(code);
+    checked
 }
 
 // A body, and the labels of its frames.
@@ -748,14 +774,21 @@ pub fn have_labels(frames: &[LabelFrame], labels: &[u32]) -> bool {
     true
 }
 
-#[test]
-fn frames_stand_where_control_goes(rt: HostRuntime) -> Result<(), Fail> {
-    for row in FRAMED {
-        let code = code(rt.alloc(), row.body)?;
-        expect(
-            have_labels(code.frames.as_slice(), row.labels),
-            "the frames",
-        )?;
+fn is_framed(alloc: Global, row: &Framed) -> Result<bool, Fail> {
+    let code = code(alloc, row.body)?;
+    let is_framed = have_labels(code.frames.as_slice(), row.labels);
+    drop(code);
+    Ok(is_framed)
+}
+
+fn check_framed(alloc: Global, rows: &[Framed]) -> Result<(), Fail> {
+    for row in rows {
+        expect(is_framed(alloc, row)?, "the frames")?;
     }
     Ok(())
+}
+
+#[test]
+fn frames_stand_where_control_goes(rt: HostRuntime) -> Result<(), Fail> {
+    check_framed(rt.alloc(), FRAMED)
 }

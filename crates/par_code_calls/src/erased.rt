@@ -3,6 +3,7 @@
 use par_erase::{PStmt, Plain, erase};
 use par_typed_sources::typed;
 use par_worked::expect;
+use std::alloc::Global;
 use std::rt::HostRuntime;
 use std::test::Fail;
 
@@ -124,10 +125,17 @@ fn has_main(plain: &Plain) -> bool {
     }
 }
 
+fn program(alloc: Global) -> Result<Plain, Fail> {
+    let typed = typed(alloc, SOURCE)?;
+    let plain = erase(alloc, &typed);
+    drop(typed);
+    Ok(plain?)
+}
+
 #[test]
 fn locks_that_nothing_asks_for_are_erased(rt: HostRuntime) -> Result<(), Fail> {
-    let alloc = rt.alloc();
-    let typed = typed(alloc, SOURCE)?;
-    let plain = erase(alloc, &typed)?;
-    expect(has_main(&plain), "the body of main")
+    let plain = program(rt.alloc())?;
+    let has_main = has_main(&plain);
+    drop(plain);
+    expect(has_main, "the body of main")
 }

@@ -41,12 +41,14 @@ fn has_methods(
     count: usize,
 ) -> Result<bool, Fail> {
     let read = file_at(alloc, files, place)?;
-    Ok(read.major == 51 && read.methods.len() == count)
+    let has_these = read.major == 51 && read.methods.len() == count;
+    drop(read);
+    Ok(has_these)
 }
 
-fn check_files(alloc: Global, files: &[CompiledClass]) -> Result<(), Fail> {
-    expect(files.len() == METHODS.len(), "a file for each class")?;
-    for (place, count) in METHODS.iter().enumerate() {
+fn check_files(alloc: Global, files: &[CompiledClass], methods: &[usize]) -> Result<(), Fail> {
+    expect(files.len() == methods.len(), "a file for each class")?;
+    for (place, count) in methods.iter().enumerate() {
         let is_so = has_methods(alloc, files, place, *count)?;
         expect(is_so, "the version and the methods")?;
     }
@@ -56,7 +58,9 @@ fn check_files(alloc: Global, files: &[CompiledClass]) -> Result<(), Fail> {
 #[test]
 fn files_of_a_program_are_read(rt: HostRuntime) -> Result<(), Fail> {
     let files = files_of(rt.alloc(), SOURCE)?;
-    check_files(rt.alloc(), files.as_slice())
+    let checked = check_files(rt.alloc(), files.as_slice(), METHODS);
+    drop(files);
+    checked
 }
 
 // Two sources that differ in policies and locks alone.
@@ -109,14 +113,33 @@ fn has_secret(constants: &[Constant]) -> bool {
 fn no_entry_spells_an_actor_or_a_lock(rt: HostRuntime) -> Result<(), Fail> {
     let read = first_file(rt.alloc(), GUARDED)?;
     let secret = has_secret(read.pool.entries.as_slice());
+    drop(read);
     expect(!secret, "an actor or a lock")
+}
+
+fn begins_with(files: &[CompiledClass], bytes: &[u8]) -> Result<bool, Fail> {
+    Ok(bytes_at(files, 0)? == bytes)
+}
+
+// Whether the first file of a source has these bytes.
+fn has_bytes(alloc: Global, source: &[u8], bytes: &[u8]) -> Result<bool, Fail> {
+    let files = files_of(alloc, source)?;
+    let has_these = begins_with(files.as_slice(), bytes);
+    drop(files);
+    has_these
+}
+
+// Whether the first file of a source is the first of these.
+fn begins_again(alloc: Global, files: &[CompiledClass], source: &[u8]) -> Result<bool, Fail> {
+    has_bytes(alloc, source, bytes_at(files, 0)?)
 }
 
 // Whether the first file of a source is that of the guarded one.
 fn is_guarded_again(alloc: Global, source: &[u8]) -> Result<bool, Fail> {
-    let first = files_of(alloc, GUARDED)?;
-    let again = files_of(alloc, source)?;
-    Ok(bytes_at(first.as_slice(), 0)? == bytes_at(again.as_slice(), 0)?)
+    let guarded = files_of(alloc, GUARDED)?;
+    let is_again = begins_again(alloc, guarded.as_slice(), source);
+    drop(guarded);
+    is_again
 }
 
 #[test]

@@ -32,7 +32,9 @@ fn nodes(typed: &Typed) -> u32 {
 
 fn code(alloc: Global, typed: &Typed) -> Result<Labelled, Fail> {
     let plain = erase(alloc, typed)?;
-    Ok(code_of(alloc, &plain, SHOP, MAIN)?)
+    let code = code_of(alloc, &plain, SHOP, MAIN);
+    drop(plain);
+    Ok(code?)
 }
 
 fn stands(items: &[Item], place: usize, wanted: Wanted) -> bool {
@@ -64,11 +66,18 @@ fn are_set(items: &[Item]) -> bool {
     true
 }
 
-fn with_locals(alloc: Global) -> Result<Labelled, Fail> {
+// The program whose `main` declares them.
+fn with_locals(alloc: Global) -> Result<Typed, Fail> {
     let mut body = Vec::new(alloc);
     push_locals(&mut body)?;
-    let typed = with_main(alloc, BEFORE, body.as_slice())?;
-    code(alloc, &typed)
+    with_main(alloc, BEFORE, body.as_slice())
+}
+
+fn code_with_locals(alloc: Global) -> Result<Labelled, Fail> {
+    let typed = with_locals(alloc)?;
+    let code = code(alloc, &typed);
+    drop(typed);
+    code
 }
 
 fn check_locals(code: &Labelled) -> Result<(), Fail> {
@@ -84,8 +93,10 @@ fn check_locals(code: &Labelled) -> Result<(), Fail> {
 
 #[test]
 fn two_hundred_locals_have_their_places(rt: HostRuntime) -> Result<(), Fail> {
-    let code = with_locals(rt.alloc())?;
-    check_locals(&code)
+    let code = code_with_locals(rt.alloc())?;
+    let checked = check_locals(&code);
+    drop(code);
+    checked
 }
 
 // What is counted of code.
@@ -139,7 +150,9 @@ fn has_counts(code: &Labelled, wanted: &Counts) -> bool {
 fn is_full(alloc: Global, typed: &Typed, wanted: &Counts, locals: u16) -> Result<bool, Fail> {
     let code = code(alloc, typed)?;
     let sizes = code.max_stack == 1 && code.max_locals == locals;
-    Ok(nodes(typed) == NODES && has_counts(&code, wanted) && sizes)
+    let counts = has_counts(&code, wanted);
+    drop(code);
+    Ok(nodes(typed) == NODES && counts && sizes)
 }
 
 // A body of 1 node, 666 assignments of 3 and a block of 1.
@@ -161,8 +174,9 @@ const OF_ASSIGNMENTS: Counts = Counts {
 #[test]
 fn the_longest_row_of_assignments(rt: HostRuntime) -> Result<(), Fail> {
     let typed = with_assignments(rt.alloc())?;
-    let full = is_full(rt.alloc(), &typed, &OF_ASSIGNMENTS, 0)?;
-    expect(full, "the code of assignments")
+    let full = is_full(rt.alloc(), &typed, &OF_ASSIGNMENTS, 0);
+    drop(typed);
+    expect(full?, "the code of assignments")
 }
 
 fn with_signs(alloc: Global) -> Result<Typed, Fail> {
@@ -182,6 +196,7 @@ const OF_SIGNS: Counts = Counts {
 #[test]
 fn the_most_labels(rt: HostRuntime) -> Result<(), Fail> {
     let typed = with_signs(rt.alloc())?;
-    let full = is_full(rt.alloc(), &typed, &OF_SIGNS, 1)?;
-    expect(full, "the code of signs")
+    let full = is_full(rt.alloc(), &typed, &OF_SIGNS, 1);
+    drop(typed);
+    expect(full?, "the code of signs")
 }

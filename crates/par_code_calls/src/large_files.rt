@@ -34,7 +34,9 @@ fn check_names(files: &[CompiledClass]) -> Result<(), Fail> {
 #[test]
 fn each_of_128_classes_has_a_file(rt: HostRuntime) -> Result<(), Fail> {
     let files = many(rt.alloc())?;
-    check_names(files.as_slice())
+    let checked = check_names(files.as_slice());
+    drop(files);
+    checked
 }
 
 // Each turn has 8 bytes, and each statement two more.
@@ -53,22 +55,29 @@ fn second_code(file: &ClassFile) -> Option<&[u8]> {
     }
 }
 
+const OUT: &[u8] = &[0x99, 0x3a, 0x64];
+
+const AGAIN: &[u8] = &[0xa7, 0xc5, 0x9e];
+
 fn check_branches(code: &[u8]) -> Result<(), Fail> {
     expect(code.len() == 14_952, "the bytes of the code")?;
-    let out = Some([0x99u8, 0x3a, 0x64].as_slice());
-    expect(code.get(3..6) == out, "out of the loop, by 14,948 bytes")?;
-    let again = Some([0xa7u8, 0xc5, 0x9e].as_slice());
-    expect(
-        code.get(14_948..14_951) == again,
-        "again, by 14,946 bytes back",
-    )
+    let is_left = code.get(3..6) == Some(OUT);
+    expect(is_left, "out of the loop, by 14,948 bytes")?;
+    let comes_again = code.get(14_948..14_951) == Some(AGAIN);
+    expect(comes_again, "again, by 14,946 bytes back")
+}
+
+fn check_long(file: &ClassFile) -> Result<(), Fail> {
+    match second_code(file) {
+        Some(code) => check_branches(code),
+        None => Err(Fail::new("a method without code")),
+    }
 }
 
 #[test]
 fn long_code_branches_far(rt: HostRuntime) -> Result<(), Fail> {
-    let shop = long_file(rt.alloc())?;
-    match second_code(&shop) {
-        Some(code) => check_branches(code),
-        None => Err(Fail::new("a method without code")),
-    }
+    let file = long_file(rt.alloc())?;
+    let checked = check_long(&file);
+    drop(file);
+    checked
 }

@@ -5,6 +5,7 @@ use par_code::{Handler, Labelled};
 use par_code_form::opcode::{GOTO, IF_ICMPEQ, IFEQ};
 use par_instr::Instr;
 use par_worked::expect;
+use std::alloc::Global;
 use std::rt::HostRuntime;
 use std::test::Fail;
 
@@ -222,11 +223,21 @@ fn check_code(code: &Labelled, row: &Row) -> Result<(), Fail> {
     )
 }
 
-#[test]
-fn nested_handlers_stand_in_their_order(rt: HostRuntime) -> Result<(), Fail> {
-    for row in ROWS {
-        let code = code(rt.alloc(), row.body)?;
-        check_code(&code, row)?;
+fn check_row(alloc: Global, row: &Row) -> Result<(), Fail> {
+    let code = code(alloc, row.body)?;
+    let checked = check_code(&code, row);
+    drop(code);
+    checked
+}
+
+fn check_rows(alloc: Global, rows: &[Row]) -> Result<(), Fail> {
+    for row in rows {
+        check_row(alloc, row)?;
     }
     Ok(())
+}
+
+#[test]
+fn nested_handlers_stand_in_their_order(rt: HostRuntime) -> Result<(), Fail> {
+    check_rows(rt.alloc(), ROWS)
 }

@@ -80,13 +80,23 @@ fn begins(file: &ClassFile, bytes: &[u8]) -> Result<(), Fail> {
     expect(code.get(..bytes.len()) == Some(bytes), "the code")
 }
 
-#[test]
-fn numbers_and_locals_have_short_forms(rt: HostRuntime) -> Result<(), Fail> {
-    for row in ROWS {
-        let file = with_body(rt.alloc(), row.body)?;
-        begins(&file, row.begins)?;
+fn check_row(alloc: Global, row: &Row) -> Result<(), Fail> {
+    let file = with_body(alloc, row.body)?;
+    let checked = begins(&file, row.begins);
+    drop(file);
+    checked
+}
+
+fn check_rows(alloc: Global, rows: &[Row]) -> Result<(), Fail> {
+    for row in rows {
+        check_row(alloc, row)?;
     }
     Ok(())
+}
+
+#[test]
+fn numbers_and_locals_have_short_forms(rt: HostRuntime) -> Result<(), Fail> {
+    check_rows(rt.alloc(), ROWS)
 }
 
 const DIGITS: &[u8] = b"0123456789";
@@ -139,5 +149,7 @@ fn check_indices(file: &ClassFile) -> Result<(), Fail> {
 #[test]
 fn an_index_beyond_255_takes_two_bytes(rt: HostRuntime) -> Result<(), Fail> {
     let file = of_many_numbers(rt.alloc())?;
-    check_indices(&file)
+    let checked = check_indices(&file);
+    drop(file);
+    checked
 }

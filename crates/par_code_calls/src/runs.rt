@@ -132,20 +132,40 @@ const ROWS: &[Row] = &[
 
 fn program(alloc: Global, body: &[u8]) -> Result<Plain, Fail> {
     let typed = with_main(alloc, BEFORE, body)?;
-    Ok(erase(alloc, &typed)?)
+    let plain = erase(alloc, &typed);
+    drop(typed);
+    Ok(plain?)
 }
 
 fn code(alloc: Global, body: &[u8]) -> Result<Labelled, Fail> {
     let plain = program(alloc, body)?;
-    Ok(code_of(alloc, &plain, SHOP, MAIN)?)
+    let code = code_of(alloc, &plain, SHOP, MAIN);
+    drop(plain);
+    Ok(code?)
+}
+
+fn puts_out(alloc: Global, code: &Labelled, row: &Row) -> Result<bool, Fail> {
+    let end = run(alloc, code, row.keys)?;
+    let is_shown = end.shown.as_slice() == row.shown;
+    drop(end);
+    Ok(is_shown)
+}
+
+fn row_holds(alloc: Global, row: &Row) -> Result<bool, Fail> {
+    let code = code(alloc, row.body)?;
+    let holds = puts_out(alloc, &code, row);
+    drop(code);
+    holds
+}
+
+fn check_rows(alloc: Global, rows: &[Row]) -> Result<(), Fail> {
+    for row in rows {
+        expect(row_holds(alloc, row)?, "what is put out")?;
+    }
+    Ok(())
 }
 
 #[test]
 fn code_puts_out_what_its_body_says(rt: HostRuntime) -> Result<(), Fail> {
-    for row in ROWS {
-        let code = code(rt.alloc(), row.body)?;
-        let end = run(rt.alloc(), &code, row.keys)?;
-        expect(end.shown.as_slice() == row.shown, "what is put out")?;
-    }
-    Ok(())
+    check_rows(rt.alloc(), ROWS)
 }

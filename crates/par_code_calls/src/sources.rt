@@ -10,8 +10,9 @@ use std::test::Fail;
 /// The class files of a source.
 pub fn files_of(alloc: Global, source: &[u8]) -> Result<List<CompiledClass>, Fail> {
     let typed = typed(alloc, source)?;
-    let files = compile(alloc, &typed)?;
-    Ok(files)
+    let files = compile(alloc, &typed);
+    drop(typed);
+    Ok(files?)
 }
 
 /// The bytes of the file at a place.
@@ -25,7 +26,9 @@ pub fn bytes_at(files: &[CompiledClass], place: usize) -> Result<&[u8], Fail> {
 /// The first file of a source, read again.
 pub fn first_file(alloc: Global, source: &[u8]) -> Result<ClassFile, Fail> {
     let files = files_of(alloc, source)?;
-    file_at(alloc, files.as_slice(), 0)
+    let first = file_at(alloc, files.as_slice(), 0);
+    drop(files);
+    first
 }
 
 /// The file at a place, read again.

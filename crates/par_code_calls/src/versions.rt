@@ -33,7 +33,9 @@ fn with_body(alloc: Global, body: &[u8]) -> Result<Vec<u8>, Fail> {
 
 fn files_with_body(alloc: Global, body: &[u8]) -> Result<List<CompiledClass>, Fail> {
     let source = with_body(alloc, body)?;
-    files_of(alloc, source.as_slice())
+    let files = files_of(alloc, source.as_slice());
+    drop(source);
+    files
 }
 
 fn check_version(files: &[CompiledClass]) -> Result<(), Fail> {
@@ -47,7 +49,9 @@ fn check_version(files: &[CompiledClass]) -> Result<(), Fail> {
 #[test]
 fn a_file_begins_with_its_version(rt: HostRuntime) -> Result<(), Fail> {
     let files = files_with_body(rt.alloc(), b"open Paid; show(key());")?;
-    check_version(files.as_slice())
+    let checked = check_version(files.as_slice());
+    drop(files);
+    checked
 }
 
 // The files of a small class and of one of many frames.
@@ -59,7 +63,9 @@ fn small_and_big(alloc: Global) -> Result<List<CompiledClass>, Fail> {
 
 fn version_at(alloc: Global, files: &[CompiledClass], place: usize) -> Result<u16, Fail> {
     let read = file_at(alloc, files, place)?;
-    Ok(read.major)
+    let major = read.major;
+    drop(read);
+    Ok(major)
 }
 
 fn are_short(files: &[CompiledClass]) -> bool {
@@ -78,7 +84,9 @@ fn check_versions(alloc: Global, files: &[CompiledClass]) -> Result<(), Fail> {
 #[test]
 fn a_class_of_many_frames_has_none(rt: HostRuntime) -> Result<(), Fail> {
     let files = small_and_big(rt.alloc())?;
-    check_versions(rt.alloc(), files.as_slice())
+    let checked = check_versions(rt.alloc(), files.as_slice());
+    drop(files);
+    checked
 }
 
 fn crowded(alloc: Global) -> Result<List<CompiledClass>, Fail> {
@@ -90,11 +98,15 @@ fn crowded(alloc: Global) -> Result<List<CompiledClass>, Fail> {
 fn check_crowded(alloc: Global, files: &[CompiledClass]) -> Result<(), Fail> {
     expect(files.len() == 3, "three files")?;
     let big = file_at(alloc, files, 1)?;
-    expect(big.methods.len() == 6, "the methods")
+    let methods = big.methods.len();
+    drop(big);
+    expect(methods == 6, "the methods")
 }
 
 #[test]
 fn a_crowded_class_has_a_file(rt: HostRuntime) -> Result<(), Fail> {
     let files = crowded(rt.alloc())?;
-    check_crowded(rt.alloc(), files.as_slice())
+    let checked = check_crowded(rt.alloc(), files.as_slice());
+    drop(files);
+    checked
 }
