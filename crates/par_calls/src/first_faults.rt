@@ -1,8 +1,7 @@
 //! The first fault of sources, in names and limits, found with ample memory.
 
+use crate::sentences::program;
 use par_faults::first_fault;
-use par_lexer::lex;
-use par_parser::parse;
 use par_refusals::refusal::Refusal;
 use par_worked::expect;
 use std::alloc::Global;
@@ -34,20 +33,20 @@ class Box ?top { ?{a:} int v; }
 class Shop { static void main() !bottom { } }";
 
 fn fault_of(alloc: Global, source: &[u8]) -> Result<Option<Refusal>, Fail> {
-    let tokens = lex(alloc, source)?;
-    if tokens.len() > 262_144 {
-        return Err(Fail::new("too many tokens"));
-    }
-    let program = parse(alloc, tokens.as_slice())?;
-    Ok(first_fault(alloc, &program)?)
+    let program = program(alloc, source)?;
+    let fault = first_fault(alloc, &program);
+    drop(program);
+    Ok(fault?)
 }
 
 fn is_refused(alloc: Global, source: &[u8], refusal: Refusal) -> Result<bool, Fail> {
     Ok(fault_of(alloc, source)? == Some(refusal))
 }
 
-// Each source with its first fault: the rule, the place, the limit and the count.
-const REFUSED: &[(&str, &[u8], (u16, u32, u8, u32))] = &[
+// A row's name, and a source with its first fault: the rule, the place, the limit and the count.
+type Refused = (&'static str, &'static [u8], (u16, u32, u8, u32));
+
+const REFUSED: &[Refused] = &[
     ("a main is wanted", NO_MAIN, (105, 0, 0, 0)),
     (
         "one actor is too many, behind one clause",
@@ -65,16 +64,20 @@ fn no_fault_is_found(rt: HostRuntime) -> Result<(), Fail> {
     expect(none, "the source keeps all rules")
 }
 
-#[test]
-fn the_first_fault_is_found(rt: HostRuntime) -> Result<(), Fail> {
-    for (row, source, (rule, at, limit, count)) in REFUSED {
+fn check_refused(alloc: Global, rows: &[Refused]) -> Result<(), Fail> {
+    for (row, source, (rule, at, limit, count)) in rows {
         let refusal = Refusal {
             rule: *rule,
             at: *at,
             limit: *limit,
             count: *count,
         };
-        expect(is_refused(rt.alloc(), source, refusal)?, row)?;
+        expect(is_refused(alloc, source, refusal)?, row)?;
     }
     Ok(())
+}
+
+#[test]
+fn the_first_fault_is_found(rt: HostRuntime) -> Result<(), Fail> {
+    check_refused(rt.alloc(), REFUSED)
 }

@@ -1,5 +1,6 @@
 use par_sample::{Summary, sample};
 use par_worked::expect;
+use std::alloc::Global;
 use std::test::Fail;
 
 // A number for a text, which no other text at hand has.
@@ -11,8 +12,11 @@ fn checksum(bytes: &[u8]) -> u64 {
     sum
 }
 
+// A row's name, the number of a sample, its length and its checksum.
+type Sample = (&'static str, u64, usize, u64);
+
 // What a script of some lines makes of the same definition, by the number of the sample.
-const SAMPLES: &[(&str, u64, usize, u64)] = &[
+const SAMPLES: &[Sample] = &[
     ("the least", 0, 133_250, 15_785_707_589_938_619_503),
     ("any", 7, 133_257, 1_484_861_604_966_169_048),
     (
@@ -27,13 +31,23 @@ fn is_sample(text: &[u8], length: usize, sum: u64) -> bool {
     text.starts_with(b"actor alice, bob;\n") && text.len() == length && checksum(text) == sum
 }
 
-#[test]
-fn samples_are_those_of_a_script(rt: HostRuntime) -> Result<(), Fail> {
-    for (row, number, length, sum) in SAMPLES {
-        let text = sample(rt.alloc(), *number)?;
-        expect(is_sample(text.as_slice(), *length, *sum), row)?;
+fn has_sample(alloc: Global, number: u64, length: usize, sum: u64) -> Result<bool, Fail> {
+    let text = sample(alloc, number)?;
+    let is_sample = is_sample(text.as_slice(), length, sum);
+    drop(text);
+    Ok(is_sample)
+}
+
+fn check_samples(alloc: Global, rows: &[Sample]) -> Result<(), Fail> {
+    for (row, number, length, sum) in rows {
+        expect(has_sample(alloc, *number, *length, *sum)?, row)?;
     }
     Ok(())
+}
+
+#[test]
+fn samples_are_those_of_a_script(rt: HostRuntime) -> Result<(), Fail> {
+    check_samples(rt.alloc(), SAMPLES)
 }
 
 #[test]
@@ -46,8 +60,7 @@ fn a_sample_has_its_line(rt: HostRuntime) -> Result<(), Fail> {
         files: 101,
     };
     let line = summary.line(rt.alloc())?;
-    expect(
-        line.as_str() == "sample 7 classes 101 methods 1001 nodes 17007 accepted 101\n",
-        "its counts are told",
-    )
+    let is_told = line.as_str() == "sample 7 classes 101 methods 1001 nodes 17007 accepted 101\n";
+    drop(line);
+    expect(is_told, "its counts are told")
 }

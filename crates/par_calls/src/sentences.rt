@@ -1,6 +1,9 @@
 //! Sources of the whole language, and expressions, read with ample memory.
 
 ghost use Rattle.std.specs.Prelude.{◌≤◌, length, IfOk};
+ghost use Rattle.par_lexer.specs.declared.cut.TheConstants.{LONGEST_SOURCE};
+ghost use Rattle.par_tree.specs.Shown.{source};
+ghost use Rattle.par_parser.specs.Bodies.{source_size};
 
 use par_exprs::parse_expr;
 use par_lexer::lex;
@@ -41,10 +44,10 @@ class Shop ?shared {
 }";
 
 // The tokens of a source that has some.
-fn tokens_of(alloc: Global, source: &[u8]) -> Result<List<Token>, Fail>
+fn tokens_of(alloc: Global, text: &[u8]) -> Result<List<Token>, Fail>
     ensures { IfOk result (λ tokens. length tokens ≤ 262144) }
 {
-    let tokens = lex(alloc, source)?;
+    let tokens = lex(alloc, text)?;
     if tokens.len() > 262_144 {
         return Err(Fail::new("too many tokens"));
     }
@@ -96,38 +99,44 @@ fn is_main(class: &ClassDecl) -> bool {
 }
 
 fn are_statements(stmts: &[Stmt]) -> bool {
-    let [
-        local,
-        test,
-        looped,
-        tried,
-        asked,
-        open,
-        set,
-        call,
-        member,
-        checked,
-        back,
-    ] = stmts
-    else {
+    let [local, test, looped, tried, rest @ ..] = stmts else {
         return false;
     };
     matches!(&local.kind, StmtKind::Local(_))
         && matches!(&test.kind, StmtKind::If(_, _, Some(_)))
         && matches!(&looped.kind, StmtKind::While(_, _))
         && matches!(&tried.kind, StmtKind::Try(_, _))
-        && matches!(&asked.kind, StmtKind::When(_, _, Some(_)))
+        && go_on_with_locks(rest)
+}
+
+fn go_on_with_locks(stmts: &[Stmt]) -> bool {
+    let [asked, open, set, call, rest @ ..] = stmts else {
+        return false;
+    };
+    matches!(&asked.kind, StmtKind::When(_, _, Some(_)))
         && matches!(&open.kind, StmtKind::OpenLock(_))
         && matches!(&set.kind, StmtKind::Assign(_, _))
         && matches!(&call.kind, StmtKind::Call(_))
-        && matches!(&member.kind, StmtKind::Assign(_, _))
+        && end_with_objects(rest)
+}
+
+fn end_with_objects(stmts: &[Stmt]) -> bool {
+    let [member, checked, back] = stmts else {
+        return false;
+    };
+    matches!(&member.kind, StmtKind::Assign(_, _))
         && matches!(&checked.kind, StmtKind::Local(_))
         && matches!(&back.kind, StmtKind::Return(None))
 }
 
-fn program(alloc: Global, source: &[u8]) -> Result<Program, Fail> {
-    let tokens = tokens_of(alloc, source)?;
-    Ok(parse(alloc, tokens.as_slice())?)
+/// The tree of a source.
+pub fn program(alloc: Global, text: &[u8]) -> Result<Program, Fail>
+    ensures { IfOk result (λ program. source_size (source program) ≤ LONGEST_SOURCE) }
+{
+    let tokens = tokens_of(alloc, text)?;
+    let program = parse(alloc, tokens.as_slice());
+    drop(tokens);
+    Ok(program?)
 }
 
 fn check_program(program: &Program) -> Result<(), Fail> {
@@ -141,11 +150,15 @@ fn check_program(program: &Program) -> Result<(), Fail> {
 #[test]
 fn a_source_of_each_form_is_read(rt: HostRuntime) -> Result<(), Fail> {
     let program = program(rt.alloc(), SHOP)?;
-    check_program(&program)
+    let checked = check_program(&program);
+    drop(program);
+    checked
 }
 
-// Sources that are no sentences, with the error.
-const REFUSED: &[(&str, &[u8], ParseError)] = &[
+// A row's name, and a source that is no sentence, with the error.
+type Refused = (&'static str, &'static [u8], ParseError);
+
+const REFUSED: &[Refused] = &[
     ("no declaration", b"Shop { }", ParseError::Syntax(0)),
     ("no semicolon", b"actor alice lock", ParseError::Syntax(2)),
     (
@@ -170,20 +183,32 @@ const REFUSED: &[(&str, &[u8], ParseError)] = &[
     ),
 ];
 
-fn is_refused(alloc: Global, source: &[u8], error: ParseError) -> Result<bool, Fail> {
-    let tokens = tokens_of(alloc, source)?;
-    match parse(alloc, tokens.as_slice()) {
-        Ok(_) => Ok(false),
-        Err(found) => Ok(found == error),
+fn has_error(read: &Result<Program, ParseError>, error: ParseError) -> bool {
+    match read {
+        Ok(_) => false,
+        Err(found) => *found == error,
     }
+}
+
+fn is_refused(alloc: Global, text: &[u8], error: ParseError) -> Result<bool, Fail> {
+    let tokens = tokens_of(alloc, text)?;
+    let read = parse(alloc, tokens.as_slice());
+    drop(tokens);
+    let has_error = has_error(&read, error);
+    drop(read);
+    Ok(has_error)
+}
+
+fn check_refused(alloc: Global, rows: &[Refused]) -> Result<(), Fail> {
+    for (row, text, error) in rows {
+        expect(is_refused(alloc, text, *error)?, row)?;
+    }
+    Ok(())
 }
 
 #[test]
 fn what_is_no_sentence_is_refused(rt: HostRuntime) -> Result<(), Fail> {
-    for (row, source, error) in REFUSED {
-        expect(is_refused(rt.alloc(), source, *error)?, row)?;
-    }
-    Ok(())
+    check_refused(rt.alloc(), REFUSED)
 }
 
 // Whether this is the sum of a number and of a product.
@@ -195,14 +220,24 @@ fn is_sum(read: &Expr) -> bool {
         && matches!(&right.kind, ExprKind::Binary(BinOp::Mul, _, _))
 }
 
-#[test]
-fn an_expression_is_read(rt: HostRuntime) -> Result<(), Fail> {
-    let tokens = tokens_of(rt.alloc(), b"x = 1 + 2 * f(a);")?;
+fn check_sum(alloc: Global, tokens: &[Token]) -> Result<(), Fail>
+    requires { length tokens.now ≤ 262144 }
+{
     if tokens.len() < 2 {
         return Err(Fail::new("few tokens"));
     }
-    let (read, next, nesting) = parse_expr(rt.alloc(), tokens.as_slice(), 2, 3)?;
+    let (read, next, nesting) = parse_expr(alloc, tokens, 2, 3)?;
+    let is_sum = is_sum(&read);
+    drop(read);
     // The semicolon is next, and three more count.
-    let is_so = is_sum(&read) && next == 10 && nesting == 6;
+    let is_so = is_sum && next == 10 && nesting == 6;
     expect(is_so, "a sum with a product in it")
+}
+
+#[test]
+fn an_expression_is_read(rt: HostRuntime) -> Result<(), Fail> {
+    let tokens = tokens_of(rt.alloc(), b"x = 1 + 2 * f(a);")?;
+    let checked = check_sum(rt.alloc(), tokens.as_slice());
+    drop(tokens);
+    checked
 }

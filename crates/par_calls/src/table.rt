@@ -1,8 +1,7 @@
 //! Tables of worked programs, made with ample memory.
 
-use par_lexer::lex;
+use crate::sentences::program;
 use par_lexer::name::Name;
-use par_parser::parse;
 use par_policy::{Clause, Policy};
 use par_refusals::refusal::Refusal;
 use par_table::{NameError, build};
@@ -42,12 +41,10 @@ const ACTORS: &[u8] = b"actor a, b, c, d, e, f, g, h, i, j, k, l, m, n, o, p, q;
 class Shop { static void main() { } }";
 
 fn made(alloc: Global, source: &[u8]) -> Result<Result<Table, NameError>, Fail> {
-    let tokens = lex(alloc, source)?;
-    if tokens.len() > 262_144 {
-        return Err(Fail::new("too many tokens"));
-    }
-    let program = parse(alloc, tokens.as_slice())?;
-    Ok(build(alloc, &program))
+    let program = program(alloc, source)?;
+    let made = build(alloc, &program);
+    drop(program);
+    Ok(made)
 }
 
 fn table(alloc: Global, source: &[u8]) -> Result<Table, Fail> {
@@ -373,18 +370,31 @@ const BOX_TABLE: Wanted = Wanted {
     main: 3,
 };
 
-const TABLES: &[(&str, &[u8], &Wanted)] = &[
+// A row's name, a source, and its table.
+type Made = (&'static str, &'static [u8], &'static Wanted);
+
+const TABLES: &[Made] = &[
     ("the table of the auction", AUCTION, &AUCTION_TABLE),
     ("the table of the box", BOX, &BOX_TABLE),
 ];
 
-#[test]
-fn tables_of_programs(rt: HostRuntime) -> Result<(), Fail> {
-    for (row, source, want) in TABLES {
-        let table = table(rt.alloc(), source)?;
-        expect(is_table(&table, want), row)?;
+fn has_table(alloc: Global, source: &[u8], want: &Wanted) -> Result<bool, Fail> {
+    let table = table(alloc, source)?;
+    let is_table = is_table(&table, want);
+    drop(table);
+    Ok(is_table)
+}
+
+fn check_tables(alloc: Global, rows: &[Made]) -> Result<(), Fail> {
+    for (row, source, want) in rows {
+        expect(has_table(alloc, source, want)?, row)?;
     }
     Ok(())
+}
+
+#[test]
+fn tables_of_programs(rt: HostRuntime) -> Result<(), Fail> {
+    check_tables(rt.alloc(), TABLES)
 }
 
 // Whether these may learn that an object of the class is made.
@@ -398,45 +408,67 @@ fn is_born_for(table: &Table, class: u16, want: &'static [Part]) -> bool {
     birth(table, class).shows(&want)
 }
 
+// A row's name, a class, and who may learn of its objects.
+type Birth = (&'static str, u16, &'static [Part]);
+
 // The classes of the box program: a policy that is written, one met of fields, and none.
-const BIRTHS: &[(&str, u16, &[Part])] = &[
+const BIRTHS: &[Birth] = &[
     ("the birth of a box", 3, &[(0, &[])]),
     ("the birth of a pair", 4, &[(0, &[7]), (1, &[7])]),
     ("the birth of what is lost", 2, &[(0, &[]), (1, &[])]),
 ];
 
-#[test]
-fn births_of_classes(rt: HostRuntime) -> Result<(), Fail> {
-    let table = table(rt.alloc(), BOX)?;
-    for (row, class, want) in BIRTHS {
-        expect(is_born_for(&table, *class, want), row)?;
+fn check_births(table: &Table, rows: &[Birth]) -> Result<(), Fail> {
+    for (row, class, want) in rows {
+        expect(is_born_for(table, *class, want), row)?;
     }
     Ok(())
 }
 
-// Each source with its first broken rule, the place, the limit and the count.
-const REFUSED: &[(&str, &[u8], (u16, u32, u8, u32))] = &[
+#[test]
+fn births_of_classes(rt: HostRuntime) -> Result<(), Fail> {
+    let table = table(rt.alloc(), BOX)?;
+    let checked = check_births(&table, BIRTHS);
+    drop(table);
+    checked
+}
+
+// A row's name, and a source with its first broken rule, the place, the limit and the count.
+type Refused = (&'static str, &'static [u8], (u16, u32, u8, u32));
+
+const REFUSED: &[Refused] = &[
     ("a main is wanted", NO_MAIN, (105, 0, 0, 0)),
     ("one actor is too many", ACTORS, (106, 54, 1, 17)),
 ];
 
-fn is_refused(alloc: Global, source: &[u8], refusal: Refusal) -> Result<bool, Fail> {
-    match made(alloc, source)? {
-        Ok(_) => Ok(false),
-        Err(error) => Ok(error == NameError::Broken(refusal)),
+fn has_error(made: &Result<Table, NameError>, refusal: Refusal) -> bool {
+    match made {
+        Ok(_) => false,
+        Err(error) => *error == NameError::Broken(refusal),
     }
 }
 
-#[test]
-fn programs_without_tables(rt: HostRuntime) -> Result<(), Fail> {
-    for (row, source, (rule, at, limit, count)) in REFUSED {
+fn is_refused(alloc: Global, source: &[u8], refusal: Refusal) -> Result<bool, Fail> {
+    let made = made(alloc, source)?;
+    let has_error = has_error(&made, refusal);
+    drop(made);
+    Ok(has_error)
+}
+
+fn check_refused(alloc: Global, rows: &[Refused]) -> Result<(), Fail> {
+    for (row, source, (rule, at, limit, count)) in rows {
         let refusal = Refusal {
             rule: *rule,
             at: *at,
             limit: *limit,
             count: *count,
         };
-        expect(is_refused(rt.alloc(), source, refusal)?, row)?;
+        expect(is_refused(alloc, source, refusal)?, row)?;
     }
     Ok(())
+}
+
+#[test]
+fn programs_without_tables(rt: HostRuntime) -> Result<(), Fail> {
+    check_refused(rt.alloc(), REFUSED)
 }

@@ -27,39 +27,45 @@ fn has(tree: &Tree, name: &[u8]) -> bool {
     false
 }
 
-fn named_tree(alloc: Global, name: &[u8], below: List<Tree>) -> Result<Tree, Fail> {
-    if !Name::is_name(name) {
-        return Err(Fail::new("no name"));
-    }
-    Ok(Tree {
-        name: Name::new(alloc, name)?,
-        below,
-    })
-}
-
 fn has_one(trees: &List<Tree>) -> bool {
     trees.len() == 1 && trees.get(0).is_some() && trees.get(1).is_none()
 }
 
 fn leaf(alloc: Global) -> Result<Tree, Fail> {
-    named_tree(alloc, b"leaf", List::new(alloc))
+    let name = Name::new(alloc, b"leaf")?;
+    Ok(Tree {
+        name,
+        below: List::new(alloc),
+    })
 }
 
 fn leaves(alloc: Global) -> Result<List<Tree>, Fail> {
+    let leaf = leaf(alloc)?;
     let mut leaves = List::wrap(Vec::new(alloc));
-    leaves.push(leaf(alloc)?)?;
+    leaves.push(leaf)?;
     Ok(leaves)
+}
+
+fn root(alloc: Global) -> Result<Tree, Fail> {
+    let name = Name::new(alloc, b"root")?;
+    let below = leaves(alloc)?;
+    Ok(Tree { name, below })
+}
+
+fn check_root(root: &Tree) -> Result<(), Fail> {
+    expect(has_one(&root.below), "a list has what was pushed")?;
+    expect(
+        has(root, b"leaf") && !has(root, b"stem"),
+        "a tree has its leaf",
+    )
 }
 
 #[test]
 fn a_tree_holds_lists_of_trees(rt: HostRuntime) -> Result<(), Fail> {
-    let below = leaves(rt.alloc())?;
-    expect(has_one(&below), "a list has what was pushed")?;
-    let root = named_tree(rt.alloc(), b"root", below)?;
-    expect(
-        has(&root, b"leaf") && !has(&root, b"stem"),
-        "a tree has its leaf",
-    )
+    let root = root(rt.alloc())?;
+    let checked = check_root(&root);
+    drop(root);
+    checked
 }
 
 const NAMES: &[(&str, &[u8], bool)] = &[
@@ -72,8 +78,12 @@ const NAMES: &[(&str, &[u8], bool)] = &[
 
 fn is_copied(alloc: Global) -> Result<bool, NoMemory> {
     let name = Name::new(alloc, b"shop_1")?;
-    let copy = name.copy(alloc)?;
-    Ok(copy.bytes() == b"shop_1".as_slice())
+    let copy = name.copy(alloc);
+    drop(name);
+    let copy = copy?;
+    let has_bytes = copy.bytes() == b"shop_1".as_slice();
+    drop(copy);
+    Ok(has_bytes)
 }
 
 #[test]
@@ -111,10 +121,15 @@ fn is_number(token: &Token) -> bool {
 #[test]
 fn a_source_is_cut_into_tokens(rt: HostRuntime) -> Result<(), Fail> {
     let tokens = lex(rt.alloc(), b"open Paid; // for good\nx>>>=2147483648")?;
-    expect(are_cut(tokens.as_slice()), "each token is cut")
+    let are_cut = are_cut(tokens.as_slice());
+    drop(tokens);
+    expect(are_cut, "each token is cut")
 }
 
-const FAULTS: &[(&str, &[u8], LexError)] = &[
+// A row's name, and a source with its fault.
+type Faulty = (&'static str, &'static [u8], LexError);
+
+const FAULTS: &[Faulty] = &[
     ("a zero in front", b"show(01);", LexError::BadByte(5)),
     ("zeros and a letter", b"0123x", LexError::BadByte(0)),
     ("a letter behind a number", b" 12x", LexError::BadByte(3)),
@@ -145,12 +160,16 @@ fn has_fault(alloc: Global, source: &[u8], fault: &LexError) -> bool {
     }
 }
 
-#[test]
-fn a_fault_is_told_with_its_place(rt: HostRuntime) -> Result<(), Fail> {
-    for (name, source, fault) in FAULTS {
-        expect(has_fault(rt.alloc(), source, fault), name)?;
+fn check_faults(alloc: Global, rows: &[Faulty]) -> Result<(), Fail> {
+    for (name, source, fault) in rows {
+        expect(has_fault(alloc, source, fault), name)?;
     }
     Ok(())
+}
+
+#[test]
+fn a_fault_is_told_with_its_place(rt: HostRuntime) -> Result<(), Fail> {
+    check_faults(rt.alloc(), FAULTS)
 }
 
 fn has_no_token(alloc: Global, source: &[u8]) -> Result<bool, LexError> {
@@ -167,7 +186,9 @@ fn check_blanks(alloc: Global, source: &mut Vec<u8>) -> Result<(), Fail> {
 #[test]
 fn a_source_may_have_262144_bytes(rt: HostRuntime) -> Result<(), Fail> {
     let mut source = vec![in rt.alloc(); b' '; 262_144]?;
-    check_blanks(rt.alloc(), &mut source)
+    let checked = check_blanks(rt.alloc(), &mut source);
+    drop(source);
+    checked
 }
 
 #[test]
