@@ -27,11 +27,12 @@ const BEST: usize = 0;
 const BOUND: u64 = 1000;
 
 fn line(alloc: Global, channel: Name, bid: i32) -> Result<ChannelInput, Fail> {
+    let numbers = numbers(alloc, &[bid])?;
     let class = Name::new(alloc, b"Auction")?;
     Ok(ChannelInput {
         class,
         channel,
-        numbers: numbers(alloc, &[bid])?,
+        numbers,
     })
 }
 
@@ -44,10 +45,15 @@ fn line_of_bob(alloc: Global, bid: i32) -> Result<ChannelInput, Fail> {
 }
 
 // Alice bids 30, and bob bids this.
+fn put_bids(alloc: Global, of_bob: i32, lines: &mut List<ChannelInput>) -> Result<(), Fail> {
+    lines.push(line_of_alice(alloc, 30)?)?;
+    lines.push(line_of_bob(alloc, of_bob)?)?;
+    Ok(())
+}
+
 fn bids(alloc: Global, of_bob: i32) -> Result<Inputs, Fail> {
     let mut channels = List::new(alloc);
-    channels.push(line_of_alice(alloc, 30)?)?;
-    channels.push(line_of_bob(alloc, of_bob)?)?;
+    put_bids(alloc, of_bob, &mut channels)?;
     Ok(Inputs { channels })
 }
 
@@ -82,17 +88,35 @@ fn begins_with(run: &SourceRun, price: i32) -> bool {
     }
 }
 
+fn run_on(alloc: Global, program: &Typed, bid: i32) -> Result<SourceRun, Fail> {
+    let inputs = bids(alloc, bid)?;
+    let run = run_source(alloc, program, &inputs, BOUND);
+    drop(inputs);
+    Ok(run?)
+}
+
 // Whether a run on this bid of bob begins with this price.
 fn run_begins_with(alloc: Global, program: &Typed, bid: i32, price: i32) -> Result<bool, Fail> {
-    let inputs = bids(alloc, bid)?;
-    let run = run_source(alloc, program, &inputs, BOUND)?;
-    Ok(begins_with(&run, price))
+    let run = run_on(alloc, program, bid)?;
+    let begins = begins_with(&run, price);
+    drop(run);
+    Ok(begins)
+}
+
+fn is_alike(alloc: Global, program: &Typed, low: &Inputs) -> Result<bool, Fail> {
+    let high = bids(alloc, 50)?;
+    let no_lock = Lockset::new(alloc);
+    let is_alike = alike(low, &high, program, ALICE, &no_lock);
+    drop(no_lock);
+    drop(high);
+    Ok(is_alike)
 }
 
 fn are_alike(alloc: Global, program: &Typed) -> Result<bool, Fail> {
     let low = bids(alloc, 45)?;
-    let high = bids(alloc, 50)?;
-    Ok(alike(&low, &high, program, ALICE, &Lockset::new(alloc)))
+    let are_alike = is_alike(alloc, program, &low);
+    drop(low);
+    are_alike
 }
 
 // The prices of both runs.
@@ -110,13 +134,21 @@ fn check_prices(alloc: Global, program: &Typed) -> Result<(), Fail> {
 
 fn check_alice(alloc: Global, program: &Typed) -> Result<(), Fail> {
     expect(are_alike(alloc, program)?, "they are alike for alice")?;
-    let is_shown = is_price_shown(program, &Lockset::new(alloc));
+    let no_lock = Lockset::new(alloc);
+    let is_shown = is_price_shown(program, &no_lock);
+    drop(no_lock);
     expect(is_shown, "alice sees the price")
+}
+
+fn check_bids(alloc: Global, program: &Typed) -> Result<(), Fail> {
+    check_alice(alloc, program)?;
+    check_prices(alloc, program)
 }
 
 #[test]
 fn bids_that_alice_cannot_tell_apart_show_once_both_are_done(rt: HostRuntime) -> Result<(), Fail> {
     let program = typed(rt.alloc(), AUCTION)?;
-    check_alice(rt.alloc(), &program)?;
-    check_prices(rt.alloc(), &program)
+    let checked = check_bids(rt.alloc(), &program);
+    drop(program);
+    checked
 }

@@ -1,9 +1,14 @@
 //! Facts of worked bodies, with ample memory.
 
+ghost use Rattle.std.specs.List.{AllByRecursion};
+ghost use Rattle.par_typed.specs.Shown.{bodies};
+ghost use Rattle.par_flow_laws.specs.Orderly.{IsOrderlyBody};
+
 use par_atoms::Atoms;
 use par_flow::{FactTable, KeptWay, facts_of};
 use par_locks::{LockFacts, locks_of};
 use par_policy::leq;
+use par_typed::program::Typed;
 use par_typed::table::Table;
 use par_typed_sources::typed;
 use par_worked::expect;
@@ -48,20 +53,27 @@ fn source_of(alloc: Global, row: &Row) -> Result<Vec<u8>, Fail> {
 // What is known of `main`.
 #[derive(Drop)]
 struct Known {
-    table: Table,
+    typed: Typed,
     locks: LockFacts,
     facts: FactTable,
 }
 
-fn known_of(alloc: Global, source: &[u8]) -> Result<Known, Fail> {
-    let typed = typed(alloc, source)?;
+fn facts_in(alloc: Global, typed: &Typed) -> Result<(LockFacts, FactTable), Fail>
+    requires { AllByRecursion (IsOrderlyBody typed.now.table) (bodies typed.now.bodies) }
+{
     if typed.bodies.len() == 0 {
         return Err(Fail::new("no body"));
     }
-    let locks = locks_of(alloc, &typed, 0)?;
-    let facts = facts_of(alloc, &typed, 0, &locks)?;
+    let locks = locks_of(alloc, typed, 0)?;
+    let facts = facts_of(alloc, typed, 0, &locks)?;
+    Ok((locks, facts))
+}
+
+fn known_of(alloc: Global, source: &[u8]) -> Result<Known, Fail> {
+    let typed = typed(alloc, source)?;
+    let (locks, facts) = facts_in(alloc, &typed)?;
     Ok(Known {
-        table: typed.table,
+        typed,
         locks,
         facts,
     })
@@ -69,7 +81,9 @@ fn known_of(alloc: Global, source: &[u8]) -> Result<Known, Fail> {
 
 fn known_in(alloc: Global, row: &Row) -> Result<Known, Fail> {
     let source = source_of(alloc, row)?;
-    known_of(alloc, source.as_slice())
+    let known = known_of(alloc, source.as_slice());
+    drop(source);
+    known
 }
 
 // Whether the policy of the number is below the policy 0, which is `bottom`.
@@ -129,11 +143,7 @@ fn has_paid(known: &Known, point: u32) -> Option<bool> {
 
 #[test]
 fn locks_at_show(rt: HostRuntime) -> Result<(), Fail> {
-    for (row, is_open) in OPEN {
-        let known = known_in(rt.alloc(), row)?;
-        expect(has_paid(&known, row.point) == Some(*is_open), row.name)?;
-    }
-    Ok(())
+    check_rows(rt.alloc(), Asked::Locks, OPEN)
 }
 
 const VALUES: &[(Row, bool)] = &[
@@ -161,16 +171,12 @@ const VALUES: &[(Row, bool)] = &[
 
 fn has_low_value(known: &Known, point: u32) -> Option<bool> {
     let value = known.facts.value(point)?;
-    Some(is_low(&known.table, value))
+    Some(is_low(&known.typed.table, value))
 }
 
 #[test]
 fn values_of_locals(rt: HostRuntime) -> Result<(), Fail> {
-    for (row, low) in VALUES {
-        let known = known_in(rt.alloc(), row)?;
-        expect(has_low_value(&known, row.point) == Some(*low), row.name)?;
-    }
-    Ok(())
+    check_rows(rt.alloc(), Asked::Value, VALUES)
 }
 
 const CONTEXTS: &[(Row, bool)] = &[
@@ -198,14 +204,40 @@ const CONTEXTS: &[(Row, bool)] = &[
 
 fn has_low_context(known: &Known, point: u32) -> Option<bool> {
     let way = known.facts.entry(point)?;
-    Some(is_low(&known.table, &way.context))
+    Some(is_low(&known.typed.table, &way.context))
 }
 
 #[test]
 fn contexts_at_show(rt: HostRuntime) -> Result<(), Fail> {
-    for (row, low) in CONTEXTS {
-        let known = known_in(rt.alloc(), row)?;
-        expect(has_low_context(&known, row.point) == Some(*low), row.name)?;
+    check_rows(rt.alloc(), Asked::Context, CONTEXTS)
+}
+
+// What rows ask of a point: whether Paid is open there, or whether the value or the context is low.
+#[derive(Clone, Copy)]
+enum Asked {
+    Locks,
+    Value,
+    Context,
+}
+
+fn told(known: &Known, asked: Asked, point: u32) -> Option<bool> {
+    match asked {
+        Asked::Locks => has_paid(known, point),
+        Asked::Value => has_low_value(known, point),
+        Asked::Context => has_low_context(known, point),
+    }
+}
+
+fn told_in(alloc: Global, asked: Asked, row: &Row) -> Result<Option<bool>, Fail> {
+    let known = known_in(alloc, row)?;
+    let told = told(&known, asked, row.point);
+    drop(known);
+    Ok(told)
+}
+
+fn check_rows(alloc: Global, asked: Asked, rows: &[(Row, bool)]) -> Result<(), Fail> {
+    for (row, wanted) in rows {
+        expect(told_in(alloc, asked, row)? == Some(*wanted), row.name)?;
     }
     Ok(())
 }
@@ -235,15 +267,20 @@ fn nested(alloc: Global) -> Result<Vec<u8>, Fail> {
     Ok(source)
 }
 
+fn known_in_loops(alloc: Global) -> Result<Known, Fail> {
+    let source = nested(alloc)?;
+    let known = known_of(alloc, source.as_slice());
+    drop(source);
+    known
+}
+
 #[test]
 fn nested_loops_end(rt: HostRuntime) -> Result<(), Fail> {
-    let source = nested(rt.alloc())?;
-    let known = known_of(rt.alloc(), source.as_slice())?;
+    let known = known_in_loops(rt.alloc())?;
     // The block of `main`, and five nodes a loop.
-    expect(
-        has_low_context(&known, 301) == Some(true),
-        "at the assignment",
-    )
+    let is_low = has_low_context(&known, 301) == Some(true);
+    drop(known);
+    expect(is_low, "at the assignment")
 }
 
 const LOWERED: Row = Row {
@@ -299,9 +336,15 @@ fn check_environments(facts: &FactTable) -> Result<(), Fail> {
     expect(facts.env(2).is_none(), "no third environment")
 }
 
+fn check_known(known: &Known) -> Result<(), Fail> {
+    check_points(known)?;
+    check_environments(&known.facts)
+}
+
 #[test]
 fn points_and_environments(rt: HostRuntime) -> Result<(), Fail> {
     let known = known_in(rt.alloc(), &LOWERED)?;
-    check_points(&known)?;
-    check_environments(&known.facts)
+    let checked = check_known(&known);
+    drop(known);
+    checked
 }

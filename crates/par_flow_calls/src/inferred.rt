@@ -90,7 +90,11 @@ fn is_kept(filling: &Filling) -> bool {
 fn a_field_is_as_secret_as_what_is_written_to_it(rt: HostRuntime) -> Result<(), Fail> {
     match inferred(rt.alloc(), KEPT)? {
         Err(_) => Err(Fail::new("some policies keep all rules")),
-        Ok(filling) => expect(is_kept(&filling), "the policy of the key"),
+        Ok(filling) => {
+            let is_kept = is_kept(&filling);
+            drop(filling);
+            expect(is_kept, "the policy of the key")
+        }
     }
 }
 

@@ -15,18 +15,20 @@ pub(crate) fn numbers(alloc: Global, given: &[i32]) -> Result<List<i32>, Fail> {
 }
 
 fn line(alloc: Global, given: &[i32]) -> Result<ChannelInput, Fail> {
+    let numbers = numbers(alloc, given)?;
     let class = Name::new(alloc, b"Shop")?;
     let channel = Name::new(alloc, b"key")?;
     Ok(ChannelInput {
         class,
         channel,
-        numbers: numbers(alloc, given)?,
+        numbers,
     })
 }
 
 /// Inputs whose one line gives these numbers to the channel.
 pub(crate) fn keys(alloc: Global, given: &[i32]) -> Result<Inputs, Fail> {
+    let line = line(alloc, given)?;
     let mut channels = List::new(alloc);
-    channels.push(line(alloc, given)?)?;
+    channels.push(line)?;
     Ok(Inputs { channels })
 }

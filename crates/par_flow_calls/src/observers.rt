@@ -98,18 +98,44 @@ const ROWS: &[Row] = &[
     },
 ];
 
+fn are_alike(
+    alloc: Global,
+    program: &Typed,
+    one: &Inputs,
+    other: &Inputs,
+    row: &Row,
+) -> Result<bool, Fail> {
+    let open = lock_set(alloc, row.open)?;
+    let are_alike = alike(one, other, program, row.actor, &open);
+    drop(open);
+    Ok(are_alike)
+}
+
+fn is_alike(alloc: Global, program: &Typed, one: &Inputs, row: &Row) -> Result<bool, Fail> {
+    let other = key(alloc, row.other)?;
+    let is_alike = are_alike(alloc, program, one, &other, row);
+    drop(other);
+    is_alike
+}
+
 fn holds(alloc: Global, program: &Typed, row: &Row) -> Result<bool, Fail> {
     let one = key(alloc, row.one)?;
-    let other = key(alloc, row.other)?;
-    let open = lock_set(alloc, row.open)?;
-    Ok(alike(&one, &other, program, row.actor, &open) == row.alike)
+    let is_alike = is_alike(alloc, program, &one, row);
+    drop(one);
+    Ok(is_alike? == row.alike)
+}
+
+fn check_rows(alloc: Global, program: &Typed, rows: &[Row]) -> Result<(), Fail> {
+    for row in rows {
+        expect(holds(alloc, program, row)?, row.name)?;
+    }
+    Ok(())
 }
 
 #[test]
 fn observers_tell_the_keys_that_they_see_apart(rt: HostRuntime) -> Result<(), Fail> {
     let program = typed(rt.alloc(), SHOP)?;
-    for row in ROWS {
-        expect(holds(rt.alloc(), &program, row)?, row.name)?;
-    }
-    Ok(())
+    let checked = check_rows(rt.alloc(), &program, ROWS);
+    drop(program);
+    checked
 }

@@ -47,8 +47,7 @@ fn accepted(alloc: Global, source: &[u8]) -> Result<Accepted, Fail> {
     Ok(check(alloc, typed)?)
 }
 
-fn releases(alloc: Global, source: &[u8], actor: u8) -> Result<List<Release>, Fail> {
-    let accepted = accepted(alloc, source)?;
+fn releases_of(alloc: Global, accepted: &Accepted, actor: u8) -> Result<List<Release>, Fail> {
     let table = &accepted.typed().table;
     if table.policies.len() > POLICIES || table.classes.len() > CLASSES {
         return Err(Fail::new("a table that is too long"));
@@ -56,7 +55,14 @@ fn releases(alloc: Global, source: &[u8], actor: u8) -> Result<List<Release>, Fa
     if usize::from(actor) >= table.actors.len() {
         return Err(Fail::new("no such actor"));
     }
-    Ok(audit(alloc, &accepted, actor)?)
+    Ok(audit(alloc, accepted, actor)?)
+}
+
+fn releases(alloc: Global, source: &[u8], actor: u8) -> Result<List<Release>, Fail> {
+    let accepted = accepted(alloc, source)?;
+    let releases = releases_of(alloc, &accepted, actor);
+    drop(accepted);
+    releases
 }
 
 // One release and no other.
@@ -70,16 +76,17 @@ fn is_only(releases: &List<Release>, rule: u16, at: u32) -> bool {
 #[test]
 fn the_shop_releases_its_key_to_bob(rt: HostRuntime) -> Result<(), Fail> {
     let to_bob = releases(rt.alloc(), SHOP, BOB)?;
-    expect(
-        is_only(&to_bob, 403, SHOWS),
-        "where the key is shown to bob",
-    )
+    let is_only = is_only(&to_bob, 403, SHOWS);
+    drop(to_bob);
+    expect(is_only, "where the key is shown to bob")
 }
 
 #[test]
 fn the_shop_releases_nothing_to_alice(rt: HostRuntime) -> Result<(), Fail> {
     let to_alice = releases(rt.alloc(), SHOP, ALICE)?;
-    expect(to_alice.len() == 0, "alice may see it at any time")
+    let many = to_alice.len();
+    drop(to_alice);
+    expect(many == 0, "alice may see it at any time")
 }
 
 const BIDDERS: &[(&str, u8)] = &[
@@ -87,11 +94,17 @@ const BIDDERS: &[(&str, u8)] = &[
     ("the best bid to bob", BOB),
 ];
 
+fn releases_price(alloc: Global, actor: u8) -> Result<bool, Fail> {
+    let releases = releases(alloc, AUCTION, actor)?;
+    let is_only = is_only(&releases, 401, SETS);
+    drop(releases);
+    Ok(is_only)
+}
+
 #[test]
 fn the_auction_releases_the_price_to_both(rt: HostRuntime) -> Result<(), Fail> {
     for (row, actor) in BIDDERS {
-        let releases = releases(rt.alloc(), AUCTION, *actor)?;
-        expect(is_only(&releases, 401, SETS), row)?;
+        expect(releases_price(rt.alloc(), *actor)?, row)?;
     }
     Ok(())
 }

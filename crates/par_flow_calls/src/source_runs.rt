@@ -2,6 +2,7 @@
 
 use crate::keys::keys;
 use par_meaning::{SourceEvent, SourceRun, run_source};
+use par_typed::program::Typed;
 use par_typed_sources::with_main;
 use par_values::run::{Ending, Event, Val};
 use par_worked::expect;
@@ -27,10 +28,18 @@ class Shop {
 
 const PAID: u16 = 0;
 
+fn run_on(alloc: Global, program: &Typed, given: &[i32], bound: u64) -> Result<SourceRun, Fail> {
+    let inputs = keys(alloc, given)?;
+    let run = run_source(alloc, program, &inputs, bound);
+    drop(inputs);
+    Ok(run?)
+}
+
 fn run(alloc: Global, body: &[u8], given: &[i32], bound: u64) -> Result<SourceRun, Fail> {
     let program = with_main(alloc, BEFORE, body)?;
-    let inputs = keys(alloc, given)?;
-    Ok(run_source(alloc, &program, &inputs, bound)?)
+    let run = run_on(alloc, &program, given, bound);
+    drop(program);
+    run
 }
 
 // What happens, of the class Shop or of an Item.
@@ -186,19 +195,29 @@ const ROWS: &[Row] = &[
 
 fn holds(alloc: Global, row: &Row) -> Result<bool, Fail> {
     let run = run(alloc, row.body, row.given, 100_000)?;
-    Ok(are_seen(run.events.as_slice(), row.seen) && is_ending(&run.ending, row.uncaught))
+    let is_seen = are_seen(run.events.as_slice(), row.seen);
+    let ends = is_ending(&run.ending, row.uncaught);
+    drop(run);
+    Ok(is_seen && ends)
 }
 
-#[test]
-fn programs_do_what_they_say(rt: HostRuntime) -> Result<(), Fail> {
-    for row in ROWS {
-        expect(holds(rt.alloc(), row)?, "a row of runs")?;
+fn check_rows(alloc: Global, rows: &[Row]) -> Result<(), Fail> {
+    for row in rows {
+        expect(holds(alloc, row)?, "a row of runs")?;
     }
     Ok(())
 }
 
-// A body of `main` for each form, with the steps that it takes, those of `main` included.
-const STEPS: &[(&[u8], u64)] = &[
+#[test]
+fn programs_do_what_they_say(rt: HostRuntime) -> Result<(), Fail> {
+    check_rows(rt.alloc(), ROWS)
+}
+
+// A body of `main`, and the steps that it takes, those of `main` included.
+type Steps = (&'static [u8], u64);
+
+// One for each form.
+const STEPS: &[Steps] = &[
     (b"", 1),
     (b"{ }", 2),
     (b"if (true) { }", 4),
@@ -240,13 +259,19 @@ fn takes(alloc: Global, body: &[u8], steps: u64) -> Result<bool, Fail> {
 
 fn is_stopped(alloc: Global, body: &[u8], steps: u64) -> Result<bool, Fail> {
     let run = run(alloc, body, &[], steps)?;
-    Ok(matches!(run.ending, Ending::Stopped))
+    let is_stopped = matches!(&run.ending, Ending::Stopped);
+    drop(run);
+    Ok(is_stopped)
+}
+
+fn check_steps(alloc: Global, rows: &[Steps]) -> Result<(), Fail> {
+    for (body, steps) in rows {
+        expect(takes(alloc, body, *steps)?, "a row of steps")?;
+    }
+    Ok(())
 }
 
 #[test]
 fn each_form_takes_its_steps(rt: HostRuntime) -> Result<(), Fail> {
-    for (body, steps) in STEPS {
-        expect(takes(rt.alloc(), body, *steps)?, "a row of steps")?;
-    }
-    Ok(())
+    check_steps(rt.alloc(), STEPS)
 }

@@ -1,15 +1,13 @@
 //! Lines of source runs, put with ample memory.
 
 use par_io::MemSink;
-use par_lexer::lex;
 use par_lexer::list::List;
 use par_lexer::name::Name;
 use par_meaning::{SourceEvent, SourceRun};
-use par_parser::parse;
 use par_policy::Lockset;
-use par_table::build;
 use par_trace::{inputs_fit, tell_source};
 use par_typed::table::Table;
+use par_typed_sources::typed;
 use par_values::inputs::{ChannelInput, Inputs};
 use par_values::run::{Ending, Event, Val};
 use par_worked::expect;
@@ -30,15 +28,6 @@ set Shop.last 7 []
 budget
 ";
 
-fn table(alloc: Global, source: &[u8]) -> Result<Table, Fail> {
-    let tokens = lex(alloc, source)?;
-    if tokens.len() > 262_144 {
-        return Err(Fail::new("too many tokens"));
-    }
-    let program = parse(alloc, tokens.as_slice())?;
-    Ok(build(alloc, &program)?)
-}
-
 fn shop(alloc: Global) -> Result<Name, Fail> {
     Ok(Name::new(alloc, b"Shop")?)
 }
@@ -51,22 +40,31 @@ fn lock_set(alloc: Global, open: &[u16]) -> Result<Lockset, Fail> {
     Ok(locks)
 }
 
-fn with_locks(alloc: Global, event: Event, open: &[u16]) -> Result<SourceEvent, Fail> {
-    let locks = lock_set(alloc, open)?;
-    Ok(SourceEvent { event, locks })
-}
-
-fn shown(alloc: Global) -> Result<Event, Fail> {
+fn output(alloc: Global) -> Result<Event, Fail> {
     Ok(Event::Out(shop(alloc)?, Name::new(alloc, b"show")?, 42))
 }
 
-fn set(alloc: Global) -> Result<Event, Fail> {
+fn shown(alloc: Global) -> Result<SourceEvent, Fail> {
+    let locks = lock_set(alloc, &[6, 3, 0])?;
+    let event = output(alloc)?;
+    Ok(SourceEvent { event, locks })
+}
+
+fn write(alloc: Global) -> Result<Event, Fail> {
     Ok(Event::Set(shop(alloc)?, Name::new(alloc, b"last")?, Val::Int(7)))
 }
 
+fn set(alloc: Global) -> Result<SourceEvent, Fail> {
+    let event = write(alloc)?;
+    Ok(SourceEvent {
+        event,
+        locks: Lockset::new(alloc),
+    })
+}
+
 fn put_events(alloc: Global, events: &mut List<SourceEvent>) -> Result<(), Fail> {
-    events.push(with_locks(alloc, shown(alloc)?, &[6, 3, 0])?)?;
-    events.push(with_locks(alloc, set(alloc)?, &[])?)?;
+    events.push(shown(alloc)?)?;
+    events.push(set(alloc)?)?;
     Ok(())
 }
 
@@ -83,14 +81,24 @@ fn run(alloc: Global) -> Result<SourceRun, Fail> {
 fn is_told(alloc: Global, table: &Table, run: &SourceRun) -> Result<bool, Fail> {
     let mut sink = MemSink::new(alloc, 200)?;
     let status = tell_source(alloc, table, run, &mut sink);
-    Ok(status == 11 && sink.bytes() == LINES)
+    let are_these = sink.bytes() == LINES;
+    drop(sink);
+    Ok(status == 11 && are_these)
+}
+
+fn check_told(alloc: Global, table: &Table) -> Result<(), Fail> {
+    let run = run(alloc)?;
+    let is_told = is_told(alloc, table, &run);
+    drop(run);
+    expect(is_told?, "the lines of the run")
 }
 
 #[test]
 fn each_event_has_its_locks(rt: HostRuntime) -> Result<(), Fail> {
-    let table = table(rt.alloc(), SHOP)?;
-    let run = run(rt.alloc())?;
-    expect(is_told(rt.alloc(), &table, &run)?, "the lines of the run")
+    let typed = typed(rt.alloc(), SHOP)?;
+    let checked = check_told(rt.alloc(), &typed.table);
+    drop(typed);
+    checked
 }
 
 fn name_of(alloc: Global, channel: &[u8]) -> Result<Name, Fail> {
@@ -110,8 +118,9 @@ fn line(alloc: Global, channel: &[u8]) -> Result<ChannelInput, Fail> {
 }
 
 fn inputs(alloc: Global, channel: &[u8]) -> Result<Inputs, Fail> {
+    let line = line(alloc, channel)?;
     let mut channels = List::new(alloc);
-    channels.push(line(alloc, channel)?)?;
+    channels.push(line)?;
     Ok(Inputs { channels })
 }
 
@@ -123,7 +132,9 @@ const CHANNELS: &[(&str, &[u8], Option<usize>)] = &[
 
 fn fits(alloc: Global, table: &Table, channel: &[u8], place: Option<usize>) -> Result<bool, Fail> {
     let inputs = inputs(alloc, channel)?;
-    Ok(inputs_fit(alloc, table, &inputs)? == place)
+    let unfit = inputs_fit(alloc, table, &inputs);
+    drop(inputs);
+    Ok(unfit? == place)
 }
 
 fn check_channels(alloc: Global, table: &Table) -> Result<(), Fail> {
@@ -135,6 +146,8 @@ fn check_channels(alloc: Global, table: &Table) -> Result<(), Fail> {
 
 #[test]
 fn lines_name_input_channels(rt: HostRuntime) -> Result<(), Fail> {
-    let table = table(rt.alloc(), SHOP)?;
-    check_channels(rt.alloc(), &table)
+    let typed = typed(rt.alloc(), SHOP)?;
+    let checked = check_channels(rt.alloc(), &typed.table);
+    drop(typed);
+    checked
 }
