@@ -14,13 +14,25 @@ fn again(alloc: Global, bytes: &[u8]) -> Result<Vec<u8>, ClassError>
     requires { length bytes.now ≤ 1048576 }
 {
     let file = read_class(alloc, bytes)?;
-    Ok(write_class(alloc, &file)?)
+    let again = write_class(alloc, &file);
+    drop(file);
+    Ok(again?)
+}
+
+fn count_methods(alloc: Global) -> Result<usize, ClassError> {
+    let file = read_class(alloc, SHOP)?;
+    let many = file.methods.len();
+    drop(file);
+    Ok(many)
 }
 
 // Whether the class file has one method, and its bytes are written again.
 fn is_written_again(alloc: Global) -> Result<bool, ClassError> {
-    let file = read_class(alloc, SHOP)?;
-    Ok(file.methods.len() == 1 && again(alloc, SHOP)?.as_slice() == SHOP)
+    let has_one = count_methods(alloc)? == 1;
+    let bytes = again(alloc, SHOP)?;
+    let are_same = bytes.as_slice() == SHOP;
+    drop(bytes);
+    Ok(has_one && are_same)
 }
 
 #[test]

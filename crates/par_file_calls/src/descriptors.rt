@@ -19,14 +19,23 @@ fn is_number(kind: &Kind) -> bool {
 
 fn says_a_shop(alloc: Global, text: &[u8]) -> Result<bool, NoMemory> {
     match field_kind(alloc, text)? {
-        Some(kind) => Ok(is_shop(&kind)),
+        Some(kind) => {
+            let is_shop = is_shop(&kind);
+            drop(kind);
+            Ok(is_shop)
+        }
         None => Ok(false),
     }
 }
 
 fn says_a_number(alloc: Global, text: &[u8]) -> Result<bool, NoMemory> {
     match field_said(text) {
-        Some(said) => Ok(is_number(&said.to_kind(alloc)?)),
+        Some(said) => {
+            let kind = said.to_kind(alloc)?;
+            let is_number = is_number(&kind);
+            drop(kind);
+            Ok(is_number)
+        }
         None => Ok(false),
     }
 }
@@ -41,7 +50,11 @@ fn takes_and_gives(signature: &Signature) -> bool {
 
 fn is_signature(alloc: Global, text: &[u8]) -> Result<bool, NoMemory> {
     match method_signature(alloc, text)? {
-        Some(signature) => Ok(takes_and_gives(&signature)),
+        Some(signature) => {
+            let takes = takes_and_gives(&signature);
+            drop(signature);
+            Ok(takes)
+        }
         None => Ok(false),
     }
 }

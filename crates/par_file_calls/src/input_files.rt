@@ -6,7 +6,10 @@ use par_worked::expect;
 use std::alloc::Global;
 use std::test::Fail;
 
-const WRONG: &[(&str, &[u8], u32)] = &[
+// A row's name, a file, and its first wrong line.
+type Wrong = (&'static str, &'static [u8], u32);
+
+const WRONG: &[Wrong] = &[
     ("above int", b"Shop.key: 2147483648\n", 1),
     ("below int", b"Shop.key: -2147483649\n", 1),
     ("a blank at the end", b"Shop.key: 1 \n", 1),
@@ -38,15 +41,22 @@ fn is_wrong(alloc: Global, bytes: &[u8], line: u32) -> bool {
     }
 }
 
-#[test]
-fn a_wrong_line_is_told(rt: HostRuntime) -> Result<(), Fail> {
-    for (name, bytes, line) in WRONG {
-        expect(is_wrong(rt.alloc(), bytes, *line), name)?;
+fn check_wrong(alloc: Global, rows: &[Wrong]) -> Result<(), Fail> {
+    for (name, bytes, line) in rows {
+        expect(is_wrong(alloc, bytes, *line), name)?;
     }
     Ok(())
 }
 
-const RIGHT: &[(&str, &[u8], usize)] = &[
+#[test]
+fn a_wrong_line_is_told(rt: HostRuntime) -> Result<(), Fail> {
+    check_wrong(rt.alloc(), WRONG)
+}
+
+// A row's name, a file, and how many channels it has.
+type Right = (&'static str, &'static [u8], usize);
+
+const RIGHT: &[Right] = &[
     ("no byte", b"", 0),
     ("empty lines", b"\n\n", 0),
     ("a number", b"Shop.key: 42\n", 1),
@@ -61,15 +71,21 @@ fn has_channels(alloc: Global, bytes: &[u8], count: usize) -> Result<bool, BadIn
         return Ok(false);
     }
     let inputs = read_inputs(alloc, bytes)?;
-    Ok(inputs.channels.len() == count)
+    let many = inputs.channels.len();
+    drop(inputs);
+    Ok(many == count)
+}
+
+fn check_right(alloc: Global, rows: &[Right]) -> Result<(), Fail> {
+    for (name, bytes, count) in rows {
+        expect(has_channels(alloc, bytes, *count)?, name)?;
+    }
+    Ok(())
 }
 
 #[test]
 fn right_lines_are_counted(rt: HostRuntime) -> Result<(), Fail> {
-    for (name, bytes, count) in RIGHT {
-        expect(has_channels(rt.alloc(), bytes, *count)?, name)?;
-    }
-    Ok(())
+    check_right(rt.alloc(), RIGHT)
 }
 
 const NUMBERS: [i32; 5] = [42, 0, -2147483648, 2147483647, 0];
@@ -91,7 +107,9 @@ fn has_key_alone(inputs: &Inputs) -> bool {
 #[test]
 fn a_line_gives_its_channel_and_numbers(rt: HostRuntime) -> Result<(), Fail> {
     let inputs = read_inputs(rt.alloc(), b"Shop.key: 42 -0 -2147483648 2147483647 0")?;
-    expect(has_key_alone(&inputs), "the key has its numbers")
+    let has_key = has_key_alone(&inputs);
+    drop(inputs);
+    expect(has_key, "the key has its numbers")
 }
 
 #[test]
@@ -108,10 +126,16 @@ const LINES: usize = 100_000;
 fn long_file(alloc: Global) -> Result<Vec<u8>, NoMemory> {
     let mut bytes = Vec::new(alloc);
     for number in 0..LINES {
-        let line = format!(in alloc; "a.x{number:05}:\n")?;
-        bytes.extend_from_slice(line.as_bytes())?;
+        put_line(alloc, &mut bytes, number)?;
     }
     Ok(bytes)
+}
+
+fn put_line(alloc: Global, bytes: &mut Vec<u8>, number: usize) -> Result<(), NoMemory> {
+    let line = format!(in alloc; "a.x{number:05}:\n")?;
+    let put = bytes.extend_from_slice(line.as_bytes());
+    drop(line);
+    Ok(put?)
 }
 
 // How many channels a file has that may be long, or the first wrong line.
@@ -120,17 +144,25 @@ fn count_of(alloc: Global, bytes: &[u8]) -> Result<usize, BadInput> {
         return Err(BadInput::Line(0));
     }
     let inputs = read_inputs(alloc, bytes)?;
-    Ok(inputs.channels.len())
+    let many = inputs.channels.len();
+    drop(inputs);
+    Ok(many)
+}
+
+fn check_long(alloc: Global, bytes: &mut Vec<u8>) -> Result<(), Fail> {
+    let all = count_of(alloc, bytes.as_slice())?;
+    expect(all == LINES, "each line is an entry")?;
+    bytes.extend_from_slice(b"a.x00000: 1\n")?;
+    expect(
+        count_of(alloc, bytes.as_slice()) == Err(BadInput::Line(100_001)),
+        "the first channel once more",
+    )
 }
 
 #[test]
 fn a_file_may_have_100000_lines(rt: HostRuntime) -> Result<(), Fail> {
     let mut bytes = long_file(rt.alloc())?;
-    let all = count_of(rt.alloc(), bytes.as_slice())?;
-    expect(all == LINES, "each line is an entry")?;
-    bytes.extend_from_slice(b"a.x00000: 1\n")?;
-    expect(
-        count_of(rt.alloc(), bytes.as_slice()) == Err(BadInput::Line(100_001)),
-        "the first channel once more",
-    )
+    let checked = check_long(rt.alloc(), &mut bytes);
+    drop(bytes);
+    checked
 }

@@ -3,9 +3,11 @@ use par_worked::expect;
 use std::alloc::Global;
 use std::test::Fail;
 
-// The bytes and the instruction of some rows of the Java Virtual Machine Specification, and the
-// change of the operand list.
-const ROWS: &[(&str, &[u8], Instr, Option<i8>)] = &[
+// The bytes and the instruction of a row of the Java Virtual Machine Specification, and the change
+// of the operand list.
+type Row = (&'static str, &'static [u8], Instr, Option<i8>);
+
+const ROWS: &[Row] = &[
     ("bipush -128", &[0x10, 0x80], Instr::Bipush(-128), Some(1)),
     ("iconst_m1", &[0x02], Instr::Iconst(-1), Some(1)),
     (
@@ -43,15 +45,23 @@ fn is_written(alloc: Global) -> bool {
     encoded.is_ok() && out.as_slice() == [0x10, 0x80].as_slice()
 }
 
-#[test]
-fn rows_are_read_and_written(rt: HostRuntime) -> Result<(), Fail> {
-    for (name, bytes, instr, change) in ROWS {
+fn check_rows(rows: &[Row]) -> Result<(), Fail> {
+    for (name, bytes, instr, change) in rows {
         expect(is_read(bytes, instr, *change), name)?;
     }
+    Ok(())
+}
+
+#[test]
+fn rows_are_read_and_written(rt: HostRuntime) -> Result<(), Fail> {
+    check_rows(ROWS)?;
     expect(is_written(rt.alloc()), "bipush -128 is written")
 }
 
-const OTHERS: &[(&str, &[u8], usize, InstrError)] = &[
+// A row's name, and bytes of which no instruction is read from an offset, with the error.
+type Other = (&'static str, &'static [u8], usize, InstrError);
+
+const OTHERS: &[Other] = &[
     (
         "wide is not listed",
         &[0xc4],
@@ -62,13 +72,18 @@ const OTHERS: &[(&str, &[u8], usize, InstrError)] = &[
     ("no byte is left", &[0x60], 1, InstrError::Cut),
 ];
 
-#[test]
-fn others_are_refused(_rt: HostRuntime) -> Result<(), Fail> {
-    for (name, bytes, at, error) in OTHERS {
-        expect(
-            *at <= bytes.len() && decode(bytes, *at) == Err(*error),
-            name,
-        )?;
+fn is_refused(bytes: &[u8], at: usize, error: InstrError) -> bool {
+    at <= bytes.len() && decode(bytes, at) == Err(error)
+}
+
+fn check_others(rows: &[Other]) -> Result<(), Fail> {
+    for (name, bytes, at, error) in rows {
+        expect(is_refused(bytes, *at, *error), name)?;
     }
     Ok(())
+}
+
+#[test]
+fn others_are_refused(_rt: HostRuntime) -> Result<(), Fail> {
+    check_others(OTHERS)
 }
