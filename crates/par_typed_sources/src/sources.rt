@@ -37,5 +37,7 @@ pub fn with_main(alloc: Global, before: &[u8], body: &[u8]) -> Result<Typed, Fai
     let mut source = Vec::from_slice(alloc, before)?;
     source.extend_from_slice(body)?;
     source.extend_from_slice(b"\n  }\n}\n")?;
-    typed(alloc, source.as_slice())
+    let typed = typed(alloc, source.as_slice());
+    drop(source);
+    typed
 }
