@@ -312,16 +312,21 @@ fn step(code: &Labelled, state: &mut State) -> Result<(), Fail> {
     }
 }
 
-/// Where a run of the code ends that reads these keys.
-pub fn run(alloc: Global, code: &Labelled, keys: &[i32]) -> Result<State, Fail> {
-    let mut state = begin(alloc, code, keys)?;
+fn go(code: &Labelled, state: &mut State) -> Result<(), Fail> {
     for _ in 0..MOST_STEPS {
-        step(code, &mut state)?;
+        step(code, state)?;
         // Where it went to a label, the next item is the one behind it.
         state.place = state.place.saturating_add(1);
         if state.is_over {
-            return Ok(state);
+            return Ok(());
         }
     }
     Err(Fail::new("too many steps"))
+}
+
+/// Where a run of the code ends that reads these keys.
+pub fn run(alloc: Global, code: &Labelled, keys: &[i32]) -> Result<State, Fail> {
+    let mut state = begin(alloc, code, keys)?;
+    go(code, &mut state)?;
+    Ok(state)
 }
