@@ -1,33 +1,33 @@
 ghost use Rattle.std.specs.Prelude.{◌≡◌, true, None, OnOk, OnErr};
 ghost use Rattle.par_io.specs.Causes.{untouched_sink, raised};
-ghost use Rattle.par_io.specs.HostSink.{counts_of};
+ghost use Rattle.par_io.specs.HostSink.{counts_of, IsPut};
 
+use crate::outlet::Outlet;
 use crate::outside::{PutFailed, Sink};
 use crate::whole::write_whole;
-use std::io::writer;
 
 /// The standard output of the process. It does not tell what was put.
 #[derive(Drop)]
-pub struct HostSink<'a, R: Print> {
-    rt: &'a R,
+pub struct HostSink<O: Drop> {
+    outlet: O,
     puts: u64,
     faults: u64,
 }
 
-impl<'a, R: Print> HostSink<'a, R> {
-    /// The standard output that this runtime gives.
-    pub fn new(rt: &'a R) -> HostSink<'a, R>
+impl<O: Drop> HostSink<O> {
+    /// The output that this outlet gives writers to, as that of a runtime.
+    pub fn new(outlet: O) -> HostSink<O>
         ensures counts { counts_of result ≡ untouched_sink }
     {
         HostSink {
-            rt,
+            outlet,
             puts: 0,
             faults: 0,
         }
     }
 }
 
-impl<R: Print> Sink for HostSink<'_, R> {
+impl<O: Outlet + Drop> Sink for HostSink<O> {
     ghost held = { λ _. None };
 
     ghost counts = { counts_of };
@@ -40,9 +40,12 @@ impl<R: Print> Sink for HostSink<'_, R> {
             ((counts_of self.new).faults ≡ (counts_of self.old).faults) }
         ensures fault { OnErr result
             ((counts_of self.new).faults ≡ raised (counts_of self.old).faults) }
+        ensures written { OnOk result
+            (IsPut (O.gives self.old.outlet) O.Writer.contents bytes.now) }
     {
         self.puts = self.puts.saturating_add(1);
-        if write_whole(&mut writer(self.rt), bytes).is_err() {
+        let mut writer = self.outlet.outlet();
+        if write_whole(&mut writer, bytes).is_err() {
             self.faults = self.faults.saturating_add(1);
             return Err(PutFailed);
         }
