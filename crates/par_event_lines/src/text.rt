@@ -140,6 +140,26 @@ pub fn ending_line(alloc: Global, ending: &Ending) -> Result<Vec<u8>, NoMemory>
     Ok(text)
 }
 
+/// Adds the line of code that cannot be run, with its end.
+fn add_bad_code_line(
+    alloc: Global,
+    text: &mut Vec<u8>,
+    class: &Name,
+    method: &[u8],
+    offset: u32,
+    reason: u8,
+) -> Result<(), NoMemory>
+    ensures { OnOk result (text.new.items ≡ text.old.items
+        ++ line (spec.ending_text (BadCode class.now method.now offset reason))) }
+{
+    add_member(text, b"bad code ", class.bytes(), method)?;
+    add_number(alloc, text, offset)?;
+    text.extend_from_slice(b" ")?;
+    add_number(alloc, text, u32::from(reason))?;
+    text.extend_from_slice(b"\n")?;
+    Ok(())
+}
+
 /// The line of code that cannot be run, with its end.
 pub fn bad_code_line(
     alloc: Global,
@@ -152,10 +172,6 @@ pub fn bad_code_line(
         text.items ≡ line (spec.ending_text (BadCode class.now method.now offset reason))) }
 {
     let mut text = Vec::new(alloc);
-    add_member(&mut text, b"bad code ", class.bytes(), method)?;
-    add_number(alloc, &mut text, offset)?;
-    text.extend_from_slice(b" ")?;
-    add_number(alloc, &mut text, u32::from(reason))?;
-    text.extend_from_slice(b"\n")?;
+    add_bad_code_line(alloc, &mut text, class, method, offset, reason)?;
     Ok(text)
 }
