@@ -1,20 +1,44 @@
 //! A run, told as it goes.
 
-ghost use Rattle.std.specs.Prelude.{◌≡◌, ◌≢◌, ◌<◌, ◌≤◌, ◌+◌, IsTrue, IfOk, IfErr, MatchOption};
+ghost use Rattle.std.specs.Prelude.{◌≡◌, ◌≢◌, ◌<◌, ◌≤◌, ◌+◌, IsTrue, IfOk, OnOk, IfErr};
+ghost use Rattle.std.specs.Prelude.{MatchOption};
+ghost use Rattle.par_io.specs.Causes.{raised, appended};
 ghost use Rattle.par_io.specs.Saying.{Said};
 ghost use Rattle.par_machine.specs.Machine.{steps_of};
 ghost use Rattle.par_run_lines.specs.Running.{runs_of};
-ghost use Rattle.par_event_lines.specs.Texts.{lines, status};
+ghost use Rattle.par_event_lines.specs.Texts.{lines, status, event_text, line as ended};
 ghost use Rattle.par_event_lines.specs.Telling.{GoesOn, ClosesBy, IsUntoldTurn, PutsAreTold};
-ghost use Rattle.par_event_lines.specs.Telling.{IsTold};
+ghost use Rattle.par_event_lines.specs.Telling.{IsTold, IsUntold};
 ghost use Rattle.par_event_lines.specs.Telling.{IsCutOff, Closes};
 
 use crate::step::{MOST_STEPS, Moved, step};
 use par_event_lines::{Closing, Untold, put_closing, put_event, status_of, untold_status};
 use par_io::Sink;
 use par_machine::machine::Machine;
-use par_values::run::Ending;
+use par_values::run::{Ending, Event};
 use std::alloc::Global;
+
+/// Puts the line of an event that nobody asks for behind this.
+#[inline(always)]
+fn put_last<S: Sink>(
+    alloc: Global,
+    event: Event,
+    line: &mut Vec<u8>,
+    out: &mut S,
+) -> Result<(), Untold>
+    ensures faults_never_fall { (S.counts out.old).faults ≤ (S.counts out.new).faults }
+    ensures faults_stand { IsTrue S.counts_faults_alone →
+        PutsAreTold result (S.counts out.old).faults (S.counts out.new).faults }
+    ensures counted { OnOk result ((S.counts out.new).puts ≡ raised (S.counts out.old).puts) }
+    ensures put { OnOk result
+        (S.held out.new ≡ appended (S.held out.old) (ended (event_text event))) }
+    ensures untold { IfErr result (IsUntold (ended (event_text event))
+        (S.held out.old) (S.held out.new) (S.counts out.old) (S.counts out.new)) }
+{
+    let put = put_event(alloc, &event, line, out);
+    drop(event);
+    put
+}
 
 /// Runs one instruction, and puts the line of its event. It gives how the run closes where it does.
 #[inline(always)]
@@ -40,7 +64,7 @@ fn advance<S: Sink>(
     match step(machine)? {
         Moved::Silent => Ok(None),
         Moved::Happened(event) => {
-            put_event(alloc, &event, line, out)?;
+            put_last(alloc, event, line, out)?;
             Ok(None)
         }
         Moved::Closed(closing) => Ok(Some(closing)),
