@@ -63,23 +63,11 @@ def calls_that_are_reached(part):
     return of_code(code, many + 1, 0, max(1, int(14 * part)), entries, more=[taken]), VERIFY
 
 
-def arguments_and_loops(part):
-    """Methods with one jump back that share 60,000 arguments."""
-    many = int(18000 * part)
-    names = [long_class.utf8(f"m{n:05}") for n in range(many)]
-    text = long_class.utf8("(" + "I" * 60000 + ")V")
-    body = struct.pack(">HHI", 1, 60000, 5) + b"\x03\x57\xa7\xff\xfe\0\0\0\0"
-    head = ((0x0009, 9 + n, 8, 1, 5, len(body)) for n in range(many))
-    methods = [struct.pack(">HHHHHI", *words) + body for words in head]
-    return {"Long": file_of([text, *names], [main(b"\xb1", 0, 0), *methods])}, VERIFY
-
-
 FILES = {
     "loops around locals that hand on objects, inside 30 handlers": handlers_around_loops,
     "65,530 handlers, from each offset to the end": handlers_to_the_end,
     "65,535 handlers around stores of an int and null by turns": handlers_around_stores,
     "14 methods of 8,000 branches to calls of 992 arguments": calls_that_are_reached,
-    "18,000 methods with a jump back that share 60,000 arguments": arguments_and_loops,
 }
 
 

@@ -488,6 +488,17 @@ def arguments_shared(part):
     return {"Long": file[:6] + b"\0\x33" + file[8:]}, RUN
 
 
+def arguments_and_loops(part):
+    """Methods with one jump back that share 60,000 arguments."""
+    many = int(18000 * part)
+    names = [long_class.utf8(f"m{n:05}") for n in range(many)]
+    text = long_class.utf8("(" + "I" * 60000 + ")V")
+    body = struct.pack(">HHI", 1, 60000, 5) + b"\x03\x57\xa7\xff\xfe\0\0\0\0"
+    head = ((0x0009, 9 + n, 8, 1, 5, len(body)) for n in range(many))
+    methods = [struct.pack(">HHHHHI", *words) + body for words in head]
+    return {"Long": file_of([text, *names], [main(b"\xb1", 0, 0), *methods])}, VERIFY
+
+
 def arguments_verified(part):
     return arguments_shared(part)[0], VERIFY
 
@@ -594,6 +605,7 @@ FILES = {
     "65,535 handlers around all code, verified": handlers_around,
     "65,530 handlers, each around an instruction, verified": handlers_apart,
     "24,000 methods that share 60,000 arguments, verified": arguments_verified,
+    "18,000 methods with a jump back that share 60,000 arguments, verified": arguments_and_loops,
     "305,000 calls of 65,532 arguments that are never reached, verified": calls_never_reached,
     "100,000 steps that throw past 65,000 handlers": throws_past_handlers,
     "the same, which name two constants by turns": throws_past_two_names,
