@@ -4,7 +4,7 @@ use par_io::{
 use par_worked::expect;
 use std::alloc::{AllocError, Global};
 use std::test::Fail;
-use std::{env, fs, process};
+use std::{env, fs, io, process};
 
 // Whether a file is read so, with this limit.
 fn reads<F: Folder>(alloc: Global, folder: &mut F, name: &str, limit: u64, bytes: &[u8]) -> bool {
@@ -192,7 +192,7 @@ fn check_lines<S: Sink>(alloc: Global, out: &mut S) -> Result<(), Fail> {
 
 #[test]
 fn the_system_takes_lines(rt: HostRuntime) -> Result<(), Fail> {
-    let mut out = HostSink::new(&rt);
+    let mut out = HostSink::new(io::writer(&rt));
     let checked = check_lines(rt.alloc(), &mut out);
     drop(out);
     checked

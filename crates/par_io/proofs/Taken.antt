@@ -13,6 +13,14 @@ both_pieces (Some xs) (Some ys) None first second _ impossible = absurd impossib
 both_pieces (Some xs) (Some ys) (Some zs) first second one two =
     two ∙ ap (λ l. l ++ second) one ∙ append_assoc xs first second
 
+-- a piece taken, and then nothing
+pub appended_kept : (old between now : Option (List ℕ)) (piece : List ℕ)
+    → Appends old between piece → Keeps between now → Appends old now piece
+appended_kept None between now piece _ _ = tt
+appended_kept (Some xs) None now piece impossible _ = absurd impossible
+appended_kept (Some xs) (Some ys) None piece _ impossible = absurd impossible
+appended_kept (Some xs) (Some ys) (Some zs) piece one same = same ∙ one
+
 -- the rest behind a piece is what was there behind the pieces before it and this one
 pub rest_behind : (front rest whole : List ℕ) (n : ℕ) → front ++ rest ≡ whole
     → (front ++ take n rest) ++ take (length rest - n) (drop n rest) ≡ whole

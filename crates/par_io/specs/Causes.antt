@@ -1,6 +1,7 @@
 -- What an answer of the outside tells of it.
 use Rattle.std.specs.Prelude.{◌≡◌, ◌≢◌, ℕ, suc, zero, ◌+◌, ◌-◌, ◌^◌, ◌<◌, ◌≤◌, ◌⊎◌, List, ◌++◌}
 use Rattle.std.specs.Prelude.{Option, Some, None, Result, Err, if◌then◌else◌, ◌==◌}
+use Rattle.std.specs.Io.KnownBytes.{Appends}
 use Rattle.par_io.specs.declared.outside.ReadFail.{ReadFail}
 use Rattle.par_io.specs.declared.outside.WriteFail.{WriteFail}
 
@@ -112,6 +113,11 @@ Sets name bytes old new = (new name ≡ Some bytes) × StandBut name old new
 abbrev pub appended : Option (List ℕ) → List ℕ → Option (List ℕ)
 appended None more = None
 appended (Some bytes) more = Some (bytes ++ more)
+
+-- a front of these bytes was taken, where what is held is told
+abbrev pub TakesFront : Option (List ℕ) → Option (List ℕ) → List ℕ → Type 0
+TakesFront old new more =
+    (front back : List ℕ) × (front ++ back ≡ more) × Appends old new front
 
 -- what is held after a call is what was held before it and a front of these bytes
 abbrev pub AppendsFront : Option (List ℕ) → Option (List ℕ) → List ℕ → Type 0

@@ -1,33 +1,36 @@
 ghost use Rattle.std.specs.Prelude.{◌≡◌, true, None, OnOk, OnErr};
-ghost use Rattle.par_io.specs.Causes.{untouched_sink, raised};
-ghost use Rattle.par_io.specs.HostSink.{counts_of, IsPut};
+ghost use Rattle.std.specs.Io.KnownBytes.{Appends};
+ghost use Rattle.par_io.specs.Causes.{untouched_sink, raised, TakesFront};
+ghost use Rattle.par_io.specs.HostSink.{counts_of};
 
-use crate::outlet::Outlet;
 use crate::outside::{PutFailed, Sink};
 use crate::whole::write_whole;
+use std::io::Write;
 
-/// The standard output of the process. It does not tell what was put.
+/// An output of the system, by what writes to it. It does not tell what was put; what a put does to
+/// its writer is told where that tells what it holds.
 #[derive(Drop)]
-pub struct HostSink<O: Drop> {
-    outlet: O,
+pub struct HostSink<W> {
+    writer: W,
     puts: u64,
     faults: u64,
 }
 
-impl<O: Drop> HostSink<O> {
-    /// The output that this outlet gives writers to, as that of a runtime.
-    pub fn new(outlet: O) -> HostSink<O>
+impl<W> HostSink<W> {
+    /// The output that this writes to.
+    pub fn new(writer: W) -> HostSink<W>
         ensures counts { counts_of result ≡ untouched_sink }
+        ensures writer { result.writer ≡ writer }
     {
         HostSink {
-            outlet,
+            writer,
             puts: 0,
             faults: 0,
         }
     }
 }
 
-impl<O: Outlet + Drop> Sink for HostSink<O> {
+impl<W: Write + Drop> Sink for HostSink<W> {
     ghost held = { λ _. None };
 
     ghost counts = { counts_of };
@@ -35,17 +38,18 @@ impl<O: Outlet + Drop> Sink for HostSink<O> {
     ghost counts_faults_alone = { true };
 
     fn put(&mut self, bytes: &[u8]) -> Result<(), PutFailed>
+        ensures written { OnOk result (Appends
+            (W.contents self.old.writer) (W.contents self.new.writer) bytes.now) }
+        ensures front { OnErr result (TakesFront
+            (W.contents self.old.writer) (W.contents self.new.writer) bytes.now) }
         ensures counted { (counts_of self.new).puts ≡ raised (counts_of self.old).puts }
         ensures no_fault { OnOk result
             ((counts_of self.new).faults ≡ (counts_of self.old).faults) }
         ensures fault { OnErr result
             ((counts_of self.new).faults ≡ raised (counts_of self.old).faults) }
-        ensures written { OnOk result
-            (IsPut (O.gives self.old.outlet) O.Writer.contents bytes.now) }
     {
         self.puts = self.puts.saturating_add(1);
-        let mut writer = self.outlet.outlet();
-        if write_whole(&mut writer, bytes).is_err() {
+        if write_whole(&mut self.writer, bytes).is_err() {
             self.faults = self.faults.saturating_add(1);
             return Err(PutFailed);
         }

@@ -11,7 +11,6 @@ mod host_sink;
 mod mem_folder;
 mod mem_sink;
 mod opener;
-mod outlet;
 mod outside;
 mod whole;
 
@@ -20,6 +19,5 @@ pub use host_sink::HostSink;
 pub use mem_folder::MemFolder;
 pub use mem_sink::MemSink;
 pub use opener::Opener;
-pub use outlet::Outlet;
 pub use outside::{Folder, PutFailed, ReadFail, Sink, WriteFail};
 pub use par_base::memory::NoMemory;

@@ -3,6 +3,7 @@ ghost use Rattle.std.specs.Prelude.{◌≡◌, ◌≢◌, ℕ, ◌+◌, ◌≤�
 ghost use Rattle.std.specs.Prelude.{IsErrAnd, IsErrOf, IsNone, OnOk, OnErr, length, take};
 ghost use Rattle.std.specs.Io.KnownBytes.{Appends, Consumes, Keeps, IsAtEnd};
 ghost use Rattle.std.specs.IoError.{error_kind};
+ghost use Rattle.par_io.specs.Causes.{TakesFront};
 
 use crate::outside::{ReadFail, WriteFail};
 use std::alloc::Global;
@@ -115,6 +116,7 @@ fn write_some<F: Write>(file: &mut F, bytes: &[u8]) -> io::Result<usize>
     ensures bound { IfOk result (λ count. count ≤ length bytes.now) }
     ensures taken { IfOk result (λ count.
         Appends (F.contents file.old) (F.contents file.new) (take count bytes.now)) }
+    ensures kept { OnErr result (Keeps (F.contents file.old) (F.contents file.new)) }
     ensures tried { IfErr result (λ error. error_kind error ≢ ErrorKind.Interrupted) }
 {
     for _ in 0..u64::MAX {
@@ -131,6 +133,8 @@ fn write_some<F: Write>(file: &mut F, bytes: &[u8]) -> io::Result<usize>
 // longer as it was.
 pub(crate) fn write_whole<F: Write>(file: &mut F, bytes: &[u8]) -> Result<(), WriteFail>
     ensures written { OnOk result (Appends (F.contents file.old) (F.contents file.new) bytes.now) }
+    ensures front { OnErr result
+        (TakesFront (F.contents file.old) (F.contents file.new) bytes.now) }
     ensures failed { IfErr result (λ fail. fail ≡ WriteFail.Failed) }
 {
     let mut rest = bytes;

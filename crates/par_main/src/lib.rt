@@ -68,7 +68,7 @@ fn asked<R: Files + Print + AllocGlobal>(rt: &R, which: Which, words: &[String])
     ensures usage { ((w : Wanted) → Asks which words.now w → ⊥) → IsSaidBy result 2 }
 {
     let mut folder = HostFolder::new(rt);
-    let mut out = HostSink::new(rt);
+    let mut out = HostSink::new(io::writer(rt));
     tool(rt.alloc(), which, words, &mut folder, &mut out)
 }
 
