@@ -1,7 +1,7 @@
 -- Where each item of a list stands first.
 use Rattle.std.specs.Prelude.{◌≡◌, Bool, List}
 use Rattle.std.specs.List.{position}
-use Rattle.indexmap.specs.IndexMap.{get}
+use Rattle.std.specs.HashMap.{get}
 use Rattle.par_index.specs.declared.firsts.Firsts.{Firsts}
 
 -- each item that is asked for has its first place in the list

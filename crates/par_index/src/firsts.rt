@@ -1,16 +1,16 @@
 ghost use Rattle.std.specs.Prelude.{◌≡◌, IfOk};
-ghost use Rattle.indexmap.specs.IndexMap.{get};
+ghost use Rattle.std.specs.HashMap.{get};
 ghost use Rattle.par_index.specs.Firsts.{AreFirst};
 
-use indexmap::IndexMap;
 use par_base::memory::NoMemory;
 use std::alloc::Global;
+use std::collections::HashMap;
 use std::hash::Hash;
 
 /// The places where the items of a list stand first.
 #[derive(Drop)]
 pub struct Firsts<K: Eq + Hash> {
-    places: IndexMap<K, usize>,
+    places: HashMap<K, usize>,
 }
 
 impl<K: Eq + Hash + Copy> Firsts<K> {
@@ -18,7 +18,7 @@ impl<K: Eq + Hash + Copy> Firsts<K> {
     pub fn of(alloc: Global, items: &[K]) -> Result<Firsts<K>, NoMemory>
         ensures { IfOk result (λ firsts. AreFirst K.eq items.now firsts) }
     {
-        let mut places = IndexMap::new(alloc);
+        let mut places = HashMap::new(alloc);
         for (place, item) in items.iter().enumerate() {
             if !places.contains_key(item) {
                 places.insert(*item, place)?;

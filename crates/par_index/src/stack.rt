@@ -5,10 +5,10 @@ ghost use Rattle.par_index.specs.Texts.{has, texts};
 ghost use Rattle.par_index.specs.Stacked.{standing};
 
 use crate::search::{FEW, search};
-use indexmap::IndexMap;
 use par_base::memory::NoMemory;
 use par_base::name::Name;
 use std::alloc::Global;
+use std::collections::HashMap;
 use std::marker::Model;
 
 /// Names that come into scope one after another, of which the last ones leave first. A name may
@@ -18,7 +18,7 @@ pub struct NameStack<'a> {
     names: Vec<&'a [u8]>,
     /// Where each name stands first. What is kept of a name that has left does no harm: a place
     /// counts only where the name stands there.
-    firsts: IndexMap<&'a [u8], usize>,
+    firsts: HashMap<&'a [u8], usize>,
 }
 
 impl<'a> Model for NameStack<'a> {
@@ -41,7 +41,7 @@ impl<'a> NameStack<'a> {
     {
         NameStack {
             names: Vec::new(alloc),
-            firsts: IndexMap::new(alloc),
+            firsts: HashMap::new(alloc),
         }
     }
 

@@ -6,7 +6,7 @@ use Rattle.std.proofs.lemmas.List.Folds.{list_any_none}
 use Rattle.std.proofs.lemmas.Slice.Eq.{bytes_eq-Decides}
 use Rattle.std.specs.List.{All, position}
 use Rattle.std.specs.Str.{bytes_eq}
-use Rattle.indexmap.specs.IndexMap.{get}
+use Rattle.std.specs.HashMap.{get}
 use Rattle.par_index.specs.declared.firsts.Firsts.{Firsts}
 use Rattle.par_index.specs.Firsts.{AreFirst}
 use Rattle.par_index.proofs.Places.{any-map, position-map}

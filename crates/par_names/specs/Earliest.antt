@@ -1,7 +1,7 @@
 -- The least place at which each name stands.
 use Rattle.std.specs.Prelude.{◌≡◌, ℕ, Bool, false, ◌||◌, ◌&&◌, nat_lt, List, Option, Some, None}
 use Rattle.std.specs.Str.{bytes_eq}
-use Rattle.indexmap.specs.IndexMap.{get_by}
+use Rattle.std.specs.HashMap.{get_by}
 use Rattle.par_tree.specs.declared.ident.Ident.{Ident}
 use Rattle.par_names.specs.declared.doubles.Earliest.{Earliest}
 use Rattle.par_names.specs.Declarations.{has_earlier}

@@ -6,16 +6,16 @@ ghost use Rattle.par_names.specs.Declarations.{doubles};
 ghost use Rattle.par_names.specs.Earliest.{is_below, place_of, AreEarliest, IsNoted};
 
 use crate::rule::SECOND_NAME;
-use indexmap::IndexMap;
 use par_index::par_base::memory::NoMemory;
 use par_refusals::refusal::Findings;
 use par_tree::ident::Ident;
 use std::alloc::Global;
+use std::collections::HashMap;
 
 /// The least place of each name.
 #[derive(Drop)]
 struct Earliest<'a> {
-    places: IndexMap<&'a [u8], u32>,
+    places: HashMap<&'a [u8], u32>,
 }
 
 impl<'a> Earliest<'a> {
@@ -24,7 +24,7 @@ impl<'a> Earliest<'a> {
         ensures { IfOk result (λ earliest. AreEarliest (map (λ id. id.now) ids.now) earliest) }
     {
         let mut earliest = Earliest {
-            places: IndexMap::new(alloc),
+            places: HashMap::new(alloc),
         };
         for id in ids {
             earliest.note(id)?;

@@ -1,7 +1,7 @@
 -- An entry of a pool in the making is found by its bytes, and a new one gets the next place.
 use Rattle.std.proofs.Common.{◌≡◌, ℕ, Bool, true, false, cond, List, [], ◌∷◌, ◌++◌, length, get_or}
 use Rattle.std.proofs.Common.{slice_get, Option, Some, None, refl, sym, ap, ◌∙◌, true≢false, ◌+◌}
-use Rattle.std.proofs.Common.{◌<◌, ◌^◌, arith}
+use Rattle.std.proofs.Common.{◌<◌, ◌^◌, subst, arith}
 use Rattle.std.specs.Prelude.{Vec}
 use Rattle.std.specs.Option.{option_or}
 use Rattle.std.specs.List.{AllByRecursion}
@@ -10,7 +10,7 @@ use Rattle.std.proofs.lemmas.List.Elements.{All-from_recursion, All-get_or}
 use Rattle.std.proofs.lemmas.List.Quantifiers.{position-Some}
 use Rattle.std.proofs.lemmas.Option.{slice_get_within, slice_get-get_or}
 use Rattle.std.proofs.lemmas.Slice.Eq.{bytes_eq-Decides}
-use Rattle.indexmap.specs.IndexMap.{IndexMap, get}
+use Rattle.std.specs.HashMap.{HashMap, get}
 use Rattle.par_pool.specs.declared.constant.Constant.{Constant}
 use Rattle.par_pool.specs.declared.error.ClassError.TheVariants.{Magic}
 use Rattle.par_pool.specs.Spelling.{constant, Fits, IsMade}
@@ -77,7 +77,7 @@ place_push entries c bytes none =
     in_case true false p q _ _ = absurd (true≢false (sym (q.1 (sym (p.0 refl)))))
     in_case false true p q _ _ = absurd (true≢false (sym (p.1 (sym (q.0 refl)))))
 
-module _ {S Z : Type 0} (entries : List Constant) (places : IndexMap (Vec ℕ Z) ℕ S)
+module _ {S Z : Type 0} (entries : List Constant) (places : HashMap (Vec ℕ Z) ℕ S)
     (bytes : Vec ℕ Z) (c : Constant) (indexed : IsIndexed entries places)
     (is : bytes.items ≡ constant c)
   where
@@ -102,9 +102,20 @@ module _ {S Z : Type 0} (entries : List Constant) (places : IndexMap (Vec ℕ Z)
           indexed.made.is_pool.few,
         )
 
+-- what looks bytes up, where it finds them as before
+pub indexed_still : {S Z : Type 0} (entries still : List Constant)
+    (before after : HashMap (Vec ℕ Z) ℕ S) → IsIndexed entries before → still ≡ entries
+    → ((q : Vec ℕ Z) → get same_bytes after q ≡ get same_bytes before q) → IsIndexed still after
+indexed_still entries still before after indexed same found = record {
+  made = subst IsMade (sym same) indexed.made;
+  placed = λ q.
+      found q ∙ indexed.placed q
+      ∙ ap (λ (pool : List Constant). place_of pool q.items) (sym same);
+}
+
 -- what looks bytes up, after the bytes of a new entry were given its place
 pub indexed_push : {S Z : Type 0} (entries more : List Constant)
-    (before after : IndexMap (Vec ℕ Z) ℕ S) (bytes : Vec ℕ Z) (c : Constant)
+    (before after : HashMap (Vec ℕ Z) ℕ S) (bytes : Vec ℕ Z) (c : Constant)
     → IsIndexed entries before → bytes.items ≡ constant c → place_of entries (constant c) ≡ None
     → more ≡ entries ++ c ∷ []
     → ((q : Vec ℕ Z) → get same_bytes after q

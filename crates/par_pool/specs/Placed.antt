@@ -2,7 +2,7 @@
 -- them.
 use Rattle.std.specs.Prelude.{◌≡◌, ℕ, Bool, List, Option, Vec, position}
 use Rattle.std.specs.Str.{bytes_eq}
-use Rattle.indexmap.specs.IndexMap.{IndexMap, get}
+use Rattle.std.specs.HashMap.{HashMap, get}
 use Rattle.par_pool.specs.declared.constant.Constant.{Constant}
 use Rattle.par_pool.specs.Spelling.{constant, IsMade}
 
@@ -15,6 +15,6 @@ same_bytes bytes other = bytes_eq bytes.items other.items
 
 -- entries that make a pool, each of which is found by its bytes
 pub record IsIndexed {S Z : Type 0} (entries : List Constant)
-    (places : IndexMap (Vec ℕ Z) ℕ S) : Type 0 where
+    (places : HashMap (Vec ℕ Z) ℕ S) : Type 0 where
   pub made : IsMade entries
   pub placed : (bytes : Vec ℕ Z) → get same_bytes places bytes ≡ place_of entries bytes.items

@@ -11,10 +11,10 @@ ghost use Rattle.par_pool.specs.Spelling.{constant as spelling, IsText, Fits, re
 
 use crate::constant::{Constant, Pool};
 use crate::writer::put_constant;
-use indexmap::IndexMap;
 use par_base::list::List;
 use par_base::memory::NoMemory;
 use std::alloc::Global;
+use std::collections::HashMap;
 use std::marker::Model;
 
 /// A constant pool in the making. Contracts see the entries that it has by now, of which no two
@@ -28,7 +28,7 @@ pub struct PoolBuilder {
     alloc: Global,
     entries: List<Constant>,
     // The place of each entry, by the bytes that spell it.
-    places: IndexMap<Vec<u8>, usize>,
+    places: HashMap<Vec<u8>, usize>,
 }
 
 impl Model for PoolBuilder {
@@ -61,7 +61,7 @@ impl PoolBuilder {
         PoolBuilder {
             alloc,
             entries: List::new(alloc),
-            places: IndexMap::new(alloc),
+            places: HashMap::new(alloc),
         }
     }
 
@@ -82,7 +82,8 @@ impl PoolBuilder {
         let place = self.entries.len();
         self.places.reserve(1)?;
         self.entries.push(wanted)?;
-        self.places.insert(bytes, place).unwrap();
+        let noted: Result<_, _> = self.places.insert(bytes, place);
+        noted.unwrap();
         Ok(place as u16 + 1)
     }
 

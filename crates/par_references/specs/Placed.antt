@@ -5,7 +5,7 @@ use Rattle.std.specs.Borrow.{Bor}
 use Rattle.std.specs.List.{flat_map, list_any, position}
 use Rattle.std.specs.Option.{option_and_then, unwrap_or}
 use Rattle.std.specs.Str.{bytes_eq}
-use Rattle.indexmap.specs.IndexMap.{get}
+use Rattle.std.specs.HashMap.{get}
 use Rattle.par_single.specs.par_pool.declared.constant.Constant.{Constant}
 use Rattle.par_single.specs.par_pool.declared.constant.Constant.TheVariants.{Utf8}
 use Rattle.par_single.specs.par_class.declared.file.ClassFile.{ClassFile}

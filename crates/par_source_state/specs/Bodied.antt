@@ -2,7 +2,7 @@
 use Rattle.std.specs.Prelude.{◌≡◌, ℕ, List, map, Option, Some, None}
 use Rattle.std.specs.Borrow.{Bor}
 use Rattle.std.specs.List.{position}
-use Rattle.indexmap.specs.IndexMap.{get}
+use Rattle.std.specs.HashMap.{get}
 use Rattle.par_index.specs.declared.firsts.Firsts.{Firsts}
 use Rattle.par_typed.specs.declared.program.TBody.{TBody}
 use Rattle.par_typed.specs.declared.program.Typed.{Typed}

@@ -2,7 +2,7 @@ use Rattle.std.proofs.Common.{◌≡◌, ◌+◌, ◌<◌, true, false, cond, �
 use Rattle.std.proofs.Common.{is_some, sym, ap, ◌∙◌, arith}
 use Rattle.std.proofs.lemmas.Grind.{common_steps}
 use Rattle.std.specs.List.{position, list_any}
-use Rattle.indexmap.specs.IndexMap.{get}
+use Rattle.std.specs.HashMap.{get}
 use Rattle.par_index.proofs.Places.{position-is_some}
 use Rattle.par_index.proofs.FirstPlaces.{place-seen, place-new}
 use Rattle.par_index.proofs.firsts.Firsts.of.Goals.{then-not-contains_key+in_ok-insert}

@@ -1,5 +1,5 @@
 use Rattle.std.proofs.Common.{◌≡◌, position, take}
-use Rattle.indexmap.specs.IndexMap.{get}
+use Rattle.std.specs.HashMap.{get}
 use Rattle.par_index.proofs.firsts.Firsts.of.Given as goal
 
 -- all that was looked at has its places

@@ -5,7 +5,7 @@ use Rattle.std.proofs.lemmas.List.{map-append}
 use Rattle.std.specs.Borrow.{Bor}
 use Rattle.std.specs.List.{position}
 use Rattle.std.specs.Str.{bytes_eq}
-use Rattle.indexmap.specs.IndexMap.{get_by}
+use Rattle.std.specs.HashMap.{get_by}
 use Rattle.par_index.specs.Texts.{has, texts}
 use Rattle.par_index.proofs.Stacked.{again, before, new, Keeps}
 use Rattle.par_index.proofs.stack.NameStack.push.Goals.{then-not-has+in_ok-insert, else-not-has}

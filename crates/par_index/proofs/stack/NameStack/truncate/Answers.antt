@@ -3,7 +3,7 @@ use Rattle.std.proofs.lemmas.List.{take-map}
 use Rattle.std.specs.Borrow.{Bor}
 use Rattle.std.specs.List.{position}
 use Rattle.std.specs.Str.{bytes_eq}
-use Rattle.indexmap.specs.IndexMap.{get_by}
+use Rattle.std.specs.HashMap.{get_by}
 use Rattle.par_index.specs.Texts.{has, texts}
 use Rattle.par_index.proofs.Stacked.{left}
 use Rattle.par_index.proofs.stack.NameStack.truncate.Goals as goal
