@@ -1,17 +1,17 @@
 -- The offsets of labels, as far as a loop has come.
 use Rattle.std.proofs.Common.{◌≡◌, ℕ, ◌+◌, ◌<◌, ◌≤◌, Bool, true, false, List, [], ◌∷◌}
-use Rattle.std.proofs.Common.{length, get_or, drop, Some, refl, sym, ap, subst, ◌∙◌, inl, inr}
+use Rattle.std.proofs.Common.{length, get_or, take, drop, Some, refl, sym, ap, subst, ◌∙◌, inl, inr}
 use Rattle.std.proofs.Common.{arith}
 use Rattle.std.proofs.lemmas.Bool.{eqb-true, eq-eqb}
-use Rattle.std.specs.Prelude.{◌⊎◌, ◌==◌, slice_get, count_by}
+use Rattle.std.specs.Prelude.{◌⊎◌, ◌==◌, slice_get, sum_by, count_by}
 use Rattle.std.proofs.lemmas.List.{drop_more, drop_all}
-use Rattle.std.proofs.lemmas.List.Sums.{sum_by-cons}
+use Rattle.std.proofs.lemmas.List.Sums.{sum_by-cons, sum_by_more, sum_by-take-le}
 use Rattle.par_code_form.specs.declared.item.Item.{Item}
 use Rattle.par_code_form.specs.declared.item.Item.TheVariants.{Label, Op, Const}
 use Rattle.par_code_form.specs.declared.item.Item.TheVariants.{Jump, Member}
 use Rattle.par_code_form.specs.declared.item.Item.TheVariants.{ClassOp, LockOp}
 use Rattle.par_place_laws.specs.Placed.{size, is_label, offset_of}
-use Rattle.par_place_laws.specs.Placeable.{StandsOnce}
+use Rattle.par_place_laws.specs.Placeable.{StandsOnce, most_bytes}
 use Rattle.par_place.specs.Offsets.{HasOffsets, Marks}
 use Rattle.par_place.proofs.Sizes.{bit, passed}
 
@@ -88,6 +88,24 @@ next items indices x xs n ns at l old new m h = choose (is_label l x) refl h
           omega (arith, g.0, counts, ap bit is),
           omega (arith, here, g.1),
         )
+
+-- the bytes of the items so far and of one more are within those that they can have
+pub sized_more : (items : List Item) (i at s : ℕ) (x : Item) → i < length items
+    → get_or items i x ≡ x → at ≤ sum_by most_bytes (take i items) → s ≤ most_bytes x
+    → at + s ≤ sum_by most_bytes (take (i + 1) items)
+sized_more items i at s x lt is so-far few =
+    omega (arith, sum_by_more most_bytes items i x lt, ap most_bytes is, so-far, few)
+
+-- and within those that all can have
+pub sized_within : (items : List Item) (i at s : ℕ) (x : Item) → i < length items
+    → get_or items i x ≡ x → at ≤ sum_by most_bytes (take i items) → s ≤ most_bytes x
+    → at + s ≤ sum_by most_bytes items
+sized_within items i at s x lt is so-far few =
+    omega (
+      arith,
+      sized_more items i at s x lt is so-far few,
+      sum_by-take-le most_bytes items (i + 1),
+    )
 
 -- one item further
 pub marked_more : (items : List Item) (indices : List ℕ) (i at s : ℕ) (x : Item) (n : ℕ)
