@@ -1,6 +1,7 @@
 -- The names of what is told.
 use Rattle.std.proofs.Common.{◌≡◌, ℕ, ◌<◌, ℤ, List, length, Option, Some, None, sym, ap, subst, ◌∙◌}
 use Rattle.par_base.specs.Names.{IsName}
+use Rattle.par_values.specs.declared.link.FieldLink.{FieldLink}
 use Rattle.par_values.specs.declared.link.MethodLink.{MethodLink}
 use Rattle.par_values.specs.declared.link.Link.{Link}
 use Rattle.par_values.specs.declared.link.Link.TheVariants as link
@@ -15,8 +16,43 @@ use Rattle.par_method_area.specs.par_step_laws.Classes.{class_names}
 use Rattle.par_class.specs.declared.file.ClassFile.{ClassFile}
 use Rattle.par_method_area.specs.par_step_laws.Links.{link_at}
 use Rattle.par_machine.specs.Instructions.{index_of}
-use Rattle.par_machine.specs.Site.{IsOutput, IsMade, named_by}
+use Rattle.par_machine.specs.Site.{IsTellable, IsOutput, IsMade, named_by}
 use Rattle.par_machine.specs.declared.site.Site.{Site}
+
+-- a field that is no lock's has these names
+pub record HasField (l : Link) (names : MemberNames) : Type 0 where
+  pub class : IsName names.class.now
+  pub name : IsName names.name.now
+  pub owned : (f : FieldLink) → l ≡ link.Field f → names.class.now ≡ f.class
+  pub named : (f : FieldLink) → l ≡ link.Field f → names.name.now ≡ f.name
+
+-- the names of a field are those that are told
+pub field_names : (l : Link) (names : MemberNames) → IsTellable l → KnowsNames l names
+    → HasField l names
+field_names (link.Number v) names is known = absurd is
+field_names (link.Method m) names is known = absurd is
+field_names (link.Class c) names is known = absurd is
+field_names link.Other names is known = absurd is
+field_names (link.Field f) names is known =
+    let are : AreNames f.class f.name names = known is in
+    record {
+      class = subst IsName (sym are.class) are.class_right;
+      name = subst IsName (sym are.name) are.name_right;
+      owned = λ g same.
+          let g_is : g ≡ f = cc in
+          are.class ∙ sym (ap (λ (q : FieldLink). q.class) g_is);
+      named = λ g same.
+          let g_is : g ≡ f = cc in
+          are.name ∙ sym (ap (λ (q : FieldLink). q.name) g_is);
+    }
+
+-- the same, by the index that is looked up
+pub field_at : (files : List ClassFile) (s : Site) (index : ℕ) (names : MemberNames)
+    → IsTellable (named_by files s) → index ≡ index_of s.instr
+    → KnowsNames (link_at files s.point.class index) names → HasField (named_by files s) names
+field_at files s index names is same known =
+    field_names (named_by files s) names is (subst
+    (λ i. KnowsNames (link_at files s.point.class i) names) same known)
 
 -- an output channel has these names
 pub record HasOutput (l : Link) (names : MemberNames) : Type 0 where

@@ -74,7 +74,8 @@ pub(crate) fn set_event(
     let names = area.member(site.point.class, index(site.instr));
     let class = Name::new(alloc, names.class)?;
     let name = Name::new(alloc, names.name)?;
-    Ok(Event::Set(class, name, shown(alloc, area, value)?))
+    let shown = shown(alloc, area, value)?;
+    Ok(Event::Set(class, name, shown))
 }
 
 /// The event of a write to a field of the object of this number.
@@ -93,7 +94,8 @@ pub(crate) fn put_event(
     let names = area.member(site.point.class, index(site.instr));
     let class = Name::new(alloc, names.class)?;
     let name = Name::new(alloc, names.name)?;
-    Ok(Event::Put(class, n, name, shown(alloc, area, value)?))
+    let shown = shown(alloc, area, value)?;
+    Ok(Event::Put(class, n, name, shown))
 }
 
 /// The event of the birth of the object of this number.
