@@ -10,3 +10,4 @@ pub mod Antisymmetry
 pub mod Joined
 pub mod Allowed
 pub mod Grouped
+pub mod Turns
