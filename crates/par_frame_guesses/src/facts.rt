@@ -62,6 +62,38 @@ fn go_round(
     Ok(())
 }
 
+/// The kind of a place of a frame that lists so many locals, and then its operands.
+fn small_at<'f>(
+    classes: &mut Classes<'_, 'f>,
+    locals: usize,
+    frame: &PlaceFrame<'f>,
+    place: usize,
+) -> Result<SmallKind, NoMemory> {
+    let kind = match place.checked_sub(locals) {
+        None => frame.locals.get(place),
+        Some(below) => frame.stack.get(below),
+    };
+    match kind {
+        Some(kind) => classes.small(kind),
+        None => Ok(SmallKind::Top),
+    }
+}
+
+/// Holds the kinds of a frame that lists so many locals, at so many places.
+fn hold<'f>(
+    before: &mut Before,
+    classes: &mut Classes<'_, 'f>,
+    locals: usize,
+    places: usize,
+    frame: &PlaceFrame<'f>,
+) -> Result<(), NoMemory> {
+    for place in 0..places {
+        let kind = small_at(classes, locals, frame, place)?;
+        before.hold(place, kind);
+    }
+    Ok(())
+}
+
 impl Facts {
     /// Nothing, of so many pieces.
     pub(crate) fn of_nothing(
@@ -129,19 +161,16 @@ impl Facts {
         }
         let places = self.locals.saturating_add(frame.stack.len());
         let mut before = Before::unset(alloc, self.locals, places)?;
-        for place in 0..places {
-            let kind = match place.checked_sub(self.locals) {
-                None => frame.locals.get(place),
-                Some(below) => frame.stack.get(below),
-            };
-            let kind = match kind {
-                Some(kind) => classes.small(kind)?,
-                None => SmallKind::Top,
-            };
-            before.hold(place, kind);
+        match hold(&mut before, classes, self.locals, places, frame) {
+            Ok(()) => {
+                self.stand(number, before);
+                Ok(())
+            }
+            Err(error) => {
+                drop(before);
+                Err(error)
+            }
         }
-        self.stand(number, before);
-        Ok(())
     }
 
     /// Lets what rose before a piece go on by a way to another.

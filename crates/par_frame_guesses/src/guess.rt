@@ -111,6 +111,18 @@ impl<'f> Sketch<'_, 'f> {
         Ok(kinds)
     }
 
+    /// The kinds of some places, on one another.
+    fn pile(
+        &self,
+        alloc: Global,
+        before: &Before,
+        from: usize,
+        many: usize,
+    ) -> Result<Pile<'f>, NoMemory> {
+        let kinds = self.kinds(alloc, before, from, many)?;
+        Pile::of(alloc, &kinds)
+    }
+
     /// The frame of what is known before a piece.
     fn frame(
         &self,
@@ -118,39 +130,66 @@ impl<'f> Sketch<'_, 'f> {
         before: &Before,
         many: usize,
     ) -> Result<PlaceFrame<'f>, NoMemory> {
-        let listed = self.kinds(alloc, before, 0, self.facts.locals)?;
-        let locals = Pile::of(alloc, &listed)?;
-        let operands = self.kinds(alloc, before, self.facts.locals, before.operands())?;
-        let stack = Pile::of(alloc, &operands)?;
+        let listed = self.facts.locals;
         Ok(PlaceFrame {
             many,
-            locals,
-            stack,
+            locals: self.pile(alloc, before, 0, listed)?,
+            stack: self.pile(alloc, before, listed, before.operands())?,
         })
     }
 
-    /// The frames of some offsets, but those that are told. Where the same is known as of the
-    /// frame before it, one shares its kinds.
-    fn frames(
+    /// The frame of what is known before a piece. Where the same is known as of the last frame, it
+    /// shares the kinds of that.
+    fn next_frame(
+        &self,
+        alloc: Global,
+        frames: &[Guess<'f>],
+        last: Option<&Before>,
+        before: &Before,
+        many: usize,
+    ) -> Result<PlaceFrame<'f>, NoMemory> {
+        match like(frames, last, before) {
+            Some(frame) => frame.copied(alloc),
+            None => self.frame(alloc, before, many),
+        }
+    }
+
+    /// Adds the frames of some offsets, but those that are told.
+    fn add_frames(
         &self,
         alloc: Global,
         many: usize,
         wanted: &[bool],
-    ) -> Result<Vec<Guess<'f>>, NoMemory> {
-        let mut frames = Vec::new(alloc);
+        frames: &mut Vec<Guess<'f>>,
+    ) -> Result<(), NoMemory> {
         let mut last: Option<&Before> = None;
         for (number, spot) in self.spots.as_slice().iter().enumerate() {
             if is_marked(wanted, spot.at as usize) && !spot.is_told {
                 if let Some(before) = self.before(number) {
-                    let frame = match like(&frames, last, before) {
-                        Some(frame) => frame.copied(alloc)?,
-                        None => self.frame(alloc, before, many)?,
-                    };
+                    let frame = self.next_frame(alloc, frames, last, before, many)?;
                     frames.push(Guess { at: spot.at, frame })?;
                     last = Some(before);
                 }
             }
         }
+        Ok(())
+    }
+
+    /// Frames for some offsets, from those that stand; none where they are not found soon.
+    fn frames(
+        &mut self,
+        alloc: Global,
+        method: &Method<'_, 'f>,
+        table: &[Option<PlaceFrame<'f>>],
+        wanted: &[bool],
+    ) -> Result<Vec<Guess<'f>>, NoMemory> {
+        let patience = method.code.code.len().saturating_mul(PATIENCE);
+        if !self.settle(alloc, table, patience)? {
+            return Ok(Vec::new(alloc));
+        }
+        let mut frames = Vec::new(alloc);
+        let many = method.code.max_locals as usize;
+        self.add_frames(alloc, many, wanted, &mut frames)?;
         Ok(frames)
     }
 }
@@ -197,9 +236,7 @@ pub fn guessed<'f>(
         return Ok(Vec::new(alloc));
     }
     let mut sketch = sketched(alloc, method, table)?;
-    let patience = method.code.code.len().saturating_mul(PATIENCE);
-    if !sketch.settle(alloc, table, patience)? {
-        return Ok(Vec::new(alloc));
-    }
-    sketch.frames(alloc, method.code.max_locals as usize, &back)
+    let frames = sketch.frames(alloc, method, table, &back);
+    drop(sketch);
+    frames
 }
