@@ -5,6 +5,7 @@ ghost use Rattle.par_base.specs.Names.{IsName};
 ghost use Rattle.par_single.specs.Members.{own_name};
 ghost use Rattle.par_frames.specs.par_link.Conditions.{IsSmall};
 ghost use Rattle.par_given_frames.specs.Named.{AreNamed};
+ghost use Rattle.par_given_frames.specs.Takes.{AreCounts};
 ghost use Rattle.par_given_frames.specs.Answers.{IsFirstBroken, FramesOf, told_as};
 
 use crate::error::Unread;
@@ -19,20 +20,31 @@ use std::alloc::Global;
 /// The number of a method that lacks frames, or whose frames stand where they may not.
 pub const UNFRAMED: u16 = 46;
 
+/// The place of the first method that has no frames, by how many arguments the descriptors take.
+fn first_without(alloc: Global, counts: &[usize], file: &ClassFile) -> Result<Option<u32>, NoMemory>
+    requires small { IsSmall file.now }
+    requires counted { AreCounts file.now.pool.entries counts.now }
+    ensures { IfOk result (λ method. IsFirstBroken file.now method) }
+{
+    let methods = file.methods.as_slice();
+    for place in 0..methods.len() {
+        if !has_frames(alloc, counts, file, &methods[place])? {
+            return Ok(Some(place as u32));
+        }
+    }
+    Ok(None)
+}
+
 /// The place of the first method that has no frames. None is kept, so that the work and the memory
 /// grow as the file does.
 pub fn first_unframed(alloc: Global, file: &ClassFile) -> Result<Option<u32>, NoMemory>
     requires { IsSmall file.now }
     ensures { IfOk result (λ method. IsFirstBroken file.now method) }
 {
-    let methods = file.methods.as_slice();
     let counts = argument_counts(alloc, file.pool.entries.as_slice())?;
-    for place in 0..methods.len() {
-        if !has_frames(alloc, counts.as_slice(), file, &methods[place])? {
-            return Ok(Some(place as u32));
-        }
-    }
-    Ok(None)
+    let first = first_without(alloc, counts.as_slice(), file);
+    drop(counts);
+    first
 }
 
 /// What is told of the method of this number, where this was read of it.
