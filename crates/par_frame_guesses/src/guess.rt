@@ -46,6 +46,34 @@ fn listed(method: &Method) -> usize {
     NAMED.min(method.code.max_locals as usize)
 }
 
+/// The pieces of a method, and what is known before them, which is nothing yet.
+#[derive(Drop)]
+struct Pieces {
+    spots: Vec<Spot>,
+    likes: Vec<usize>,
+    facts: Facts,
+}
+
+/// The pieces of a method, by the kinds that are met in them.
+fn pieces_of<'m, 'f>(
+    alloc: Global,
+    method: &Method<'m, 'f>,
+    table: &[Option<PlaceFrame<'f>>],
+    classes: &mut Classes<'m, 'f>,
+) -> Result<Pieces, NoMemory>
+    requires { length (code_in method.now).code ≤ 65535 }
+{
+    let mut spots = spots(alloc, method, table, classes)?;
+    let likes = likes(alloc, &spots)?;
+    join(alloc, &mut spots, &likes)?;
+    let facts = Facts::of_nothing(alloc, &spots, listed(method))?;
+    Ok(Pieces {
+        spots,
+        likes,
+        facts,
+    })
+}
+
 /// The pieces of a method, before which nothing is known yet.
 fn sketched<'m, 'f>(
     alloc: Global,
@@ -55,16 +83,34 @@ fn sketched<'m, 'f>(
     requires { length (code_in method.now).code ≤ 65535 }
 {
     let mut classes = Classes::new(alloc, method.exceptions);
-    let mut spots = spots(alloc, method, table, &mut classes)?;
-    let likes = likes(alloc, &spots)?;
-    join(alloc, &mut spots, &likes)?;
-    let facts = Facts::of_nothing(alloc, &spots, listed(method))?;
-    Ok(Sketch {
-        classes,
-        spots,
-        likes,
-        facts,
-    })
+    match pieces_of(alloc, method, table, &mut classes) {
+        Ok(pieces) => Ok(Sketch {
+            classes,
+            spots: pieces.spots,
+            likes: pieces.likes,
+            facts: pieces.facts,
+        }),
+        Err(error) => {
+            drop(classes);
+            Err(error)
+        }
+    }
+}
+
+/// Lets the frames that are told stand before their pieces.
+fn tell_all<'f>(
+    alloc: Global,
+    facts: &mut Facts,
+    classes: &mut Classes<'_, 'f>,
+    spots: &[Spot],
+    table: &[Option<PlaceFrame<'f>>],
+) -> Result<(), NoMemory> {
+    for (number, spot) in spots.iter().enumerate() {
+        if let Some(frame) = kept(table, spot.at as usize) {
+            facts.tell(alloc, classes, number, frame)?;
+        }
+    }
+    Ok(())
 }
 
 impl<'f> Sketch<'_, 'f> {
@@ -76,11 +122,13 @@ impl<'f> Sketch<'_, 'f> {
         table: &[Option<PlaceFrame<'f>>],
         patience: usize,
     ) -> Result<bool, NoMemory> {
-        for (number, spot) in self.spots.as_slice().iter().enumerate() {
-            if let Some(frame) = kept(table, spot.at as usize) {
-                self.facts.tell(alloc, &mut self.classes, number, frame)?;
-            }
-        }
+        tell_all(
+            alloc,
+            &mut self.facts,
+            &mut self.classes,
+            &self.spots,
+            table,
+        )?;
         let bits = self.classes.bits();
         self.facts.settle(alloc, &self.spots, bits, patience)
     }

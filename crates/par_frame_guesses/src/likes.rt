@@ -227,12 +227,18 @@ pub(crate) fn likes(alloc: Global, spots: &[Spot]) -> Result<Vec<usize>, NoMemor
     Ok(likes)
 }
 
+/// No ways of so many pieces.
+fn no_ways(alloc: Global, many: usize) -> Result<Vec<Vec<Way>>, NoMemory> {
+    let mut ways = Vec::new(alloc);
+    for _spot in 0..many {
+        ways.push(Vec::new(alloc))?;
+    }
+    Ok(ways)
+}
+
 /// The ways of pieces, of those alike on the one that stands for them.
 fn joined_ways(alloc: Global, spots: &[Spot], likes: &[usize]) -> Result<Vec<Vec<Way>>, NoMemory> {
-    let mut joined = Vec::new(alloc);
-    for _spot in spots {
-        joined.push(Vec::new(alloc))?;
-    }
+    let mut joined = no_ways(alloc, spots.len())?;
     let mut lasts = vec![in alloc; usize::MAX; spots.len()]?;
     for (number, spot) in spots.iter().enumerate() {
         let from = like_at(likes, number);

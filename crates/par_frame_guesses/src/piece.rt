@@ -103,6 +103,33 @@ fn put_off(heads: &mut [bool], at: usize) {
     mark(heads, at.saturating_add(1));
 }
 
+/// Marks the offsets of frames that stand, and those before which instructions end a piece.
+fn mark_pieces(method: &Method, table: &[Option<PlaceFrame>], heads: &mut [bool])
+    requires { length (code_in method.now).code ≤ 65535 }
+{
+    let bytes = method.code.code.as_slice();
+    let is_handled = !method.code.catches.as_slice().is_empty();
+    for at in 0..bytes.len() {
+        if kept(table, at).is_some() {
+            mark(heads, at);
+        }
+        if method.starts.has(at as u32) {
+            mark_ends(bytes, is_handled, heads, at);
+        }
+    }
+}
+
+/// Lets the pieces that begin within instructions begin behind them.
+fn put_all_off(method: &Method, heads: &mut [bool])
+    requires { length (code_in method.now).code ≤ 65535 }
+{
+    for at in 0..method.code.code.len() {
+        if !method.starts.has(at as u32) {
+            put_off(heads, at);
+        }
+    }
+}
+
 /// Of each offset whether a piece begins there, where these frames stand.
 pub(crate) fn heads(
     alloc: Global,
@@ -111,23 +138,10 @@ pub(crate) fn heads(
 ) -> Result<Vec<bool>, NoMemory>
     requires { length (code_in method.now).code ≤ 65535 }
 {
-    let bytes = method.code.code.as_slice();
-    let catches = method.code.catches.as_slice();
-    let mut heads = vec![in alloc; false; bytes.len()]?;
-    mark_handlers(catches, &mut heads);
-    for at in 0..bytes.len() {
-        if kept(table, at).is_some() {
-            mark(&mut heads, at);
-        }
-        if method.starts.has(at as u32) {
-            mark_ends(bytes, !catches.is_empty(), &mut heads, at);
-        }
-    }
-    for at in 0..bytes.len() {
-        if !method.starts.has(at as u32) {
-            put_off(&mut heads, at);
-        }
-    }
+    let mut heads = vec![in alloc; false; method.code.code.len()]?;
+    mark_handlers(method.code.catches.as_slice(), &mut heads);
+    mark_pieces(method, table, &mut heads);
+    put_all_off(method, &mut heads);
     Ok(heads)
 }
 
@@ -151,8 +165,52 @@ fn goals_of(heads: &[bool], flow: Flow, at: usize, next: usize) -> Option<Goals>
     }
 }
 
-/// The piece that begins at an offset. It goes nowhere where its code is not whole, or where more
-/// would have to be looked at than may be.
+/// Lets an instruction follow on what code makes of a frame: where it goes on.
+fn follow<'m, 'f>(
+    alloc: Global,
+    method: &Method<'m, 'f>,
+    effect: &mut Effect,
+    classes: &mut Classes<'m, 'f>,
+    instr: Instr,
+) -> Result<Flow, NoMemory> {
+    let act = act(alloc, method.linked, method.class, method.gives, instr)?;
+    effect.follow(classes, &act)?;
+    Ok(act.flow)
+}
+
+/// Goes through the piece that begins at an offset: where it goes on. It goes nowhere where its
+/// code is not whole, or where more would have to be looked at than may be.
+fn go_along<'m, 'f>(
+    alloc: Global,
+    method: &Method<'m, 'f>,
+    heads: &[bool],
+    classes: &mut Classes<'m, 'f>,
+    bounds: &mut Bounds,
+    effect: &mut Effect,
+    from: usize,
+) -> Result<Goals, NoMemory>
+    requires within { from ≤ length (code_in method.now).code }
+    requires small { length (code_in method.now).code ≤ 65535 }
+{
+    let bytes = method.code.code.as_slice();
+    let mut at = from;
+    for _instr in 0..bytes.len() {
+        let Ok((instr, next)) = decode(bytes, at) else {
+            break;
+        };
+        if !bounds.may_ask(method, instr, next - at) {
+            break;
+        }
+        let flow = follow(alloc, method, effect, classes, instr)?;
+        if let Some(goals) = goals_of(heads, flow, at, next) {
+            return Ok(goals);
+        }
+        at = next;
+    }
+    Ok(Goals::nowhere())
+}
+
+/// The piece that begins at an offset.
 pub(crate) fn piece_at<'m, 'f>(
     alloc: Global,
     method: &Method<'m, 'f>,
@@ -164,25 +222,7 @@ pub(crate) fn piece_at<'m, 'f>(
     requires within { from ≤ length (code_in method.now).code }
     requires small { length (code_in method.now).code ≤ 65535 }
 {
-    let bytes = method.code.code.as_slice();
     let mut effect = Effect::of_nothing(alloc);
-    let mut at = from;
-    for _instr in 0..bytes.len() {
-        let Ok((instr, next)) = decode(bytes, at) else {
-            break;
-        };
-        if !bounds.may_ask(method, instr, next - at) {
-            break;
-        }
-        let act = act(alloc, method.linked, method.class, method.gives, instr)?;
-        effect.follow(classes, &act)?;
-        if let Some(goals) = goals_of(heads, act.flow, at, next) {
-            return Ok(Piece { effect, goals });
-        }
-        at = next;
-    }
-    Ok(Piece {
-        effect,
-        goals: Goals::nowhere(),
-    })
+    let goals = go_along(alloc, method, heads, classes, bounds, &mut effect, from)?;
+    Ok(Piece { effect, goals })
 }

@@ -145,6 +145,19 @@ fn outlined<'m, 'f>(
 }
 
 impl Outline<'_> {
+    /// The ways on from a piece.
+    fn ways(
+        &self,
+        alloc: Global,
+        bounds: &mut Bounds,
+        goals: Goals,
+        at: u32,
+    ) -> Result<Vec<Way>, NoMemory> {
+        let mut ways = ways_to(alloc, &self.numbers, goals)?;
+        add_throws(&mut ways, &self.handlers, bounds, at)?;
+        Ok(ways)
+    }
+
     /// The piece that begins at an offset.
     fn spot<'m, 'f>(
         &self,
@@ -161,14 +174,18 @@ impl Outline<'_> {
         let piece = piece_at(alloc, method, &self.heads, classes, bounds, at)?;
         let is_told = kept(table, at).is_some();
         let at = at as u32;
-        let mut ways = ways_to(alloc, &self.numbers, piece.goals)?;
-        add_throws(&mut ways, &self.handlers, bounds, at)?;
-        Ok(Spot {
-            at,
-            effect: piece.effect,
-            ways,
-            is_told,
-        })
+        match self.ways(alloc, bounds, piece.goals, at) {
+            Ok(ways) => Ok(Spot {
+                at,
+                effect: piece.effect,
+                ways,
+                is_told,
+            }),
+            Err(error) => {
+                drop(piece);
+                Err(error)
+            }
+        }
     }
 
     /// The pieces in their order.

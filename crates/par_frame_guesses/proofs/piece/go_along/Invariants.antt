@@ -1,5 +1,5 @@
 use Rattle.std.proofs.Common.{◌≤◌, length}
-use Rattle.par_frame_guesses.proofs.piece.piece_at.Given as goal
+use Rattle.par_frame_guesses.proofs.piece.go_along.Given as goal
 
 -- the next instruction is looked for within the code
 abbrev pub invariant-loop-instr : goal.invariant-loop-instr
