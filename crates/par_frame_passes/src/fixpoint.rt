@@ -38,7 +38,7 @@ fn least<'f>(
     let mut sweep = Sweep::new(alloc, method)?;
     let mut spared: Option<PlaceFrame<'f>> = None;
     let mut merges = Merges::new(alloc);
-    settles(
+    let found = settles(
         alloc,
         &mut merges,
         method,
@@ -46,7 +46,10 @@ fn least<'f>(
         &begun,
         &mut spared,
         &mut sweep,
-    )
+    );
+    drop(merges);
+    drop(spared);
+    found
 }
 
 /// The same by a sweep that stands at the first offset, while no frame is spared.
