@@ -231,10 +231,12 @@ impl<'f> Pile<'f> {
     pub fn copied(&self, alloc: Global) -> Result<Pile<'f>, NoMemory>
         ensures { IfOk result (λ pile. pile ≡ self.now) }
     {
+        let rest = copied(alloc, &self.rest)?;
+        let like = shared(self.like.as_ref())?;
         Ok(Pile {
             pieces: self.pieces.share()?,
-            rest: copied(alloc, &self.rest)?,
-            like: shared(self.like.as_ref())?,
+            rest,
+            like,
         })
     }
 
@@ -286,9 +288,10 @@ impl<'f> Pile<'f> {
         merges.begin(alloc, exceptions)?;
         let (mine, its) = (self.pieces.as_slice(), other.pieces.as_slice());
         let pieces = merged_pieces(alloc, merges, exceptions, mine, its)?;
+        let rest = merged(alloc, exceptions, &self.rest, &other.rest)?;
         Ok(Pile {
             pieces: Pieces::told(alloc, pieces)?,
-            rest: merged(alloc, exceptions, &self.rest, &other.rest)?,
+            rest,
             like: None,
         })
     }
@@ -365,6 +368,25 @@ impl<'f> Pile<'f> {
         true
     }
 
+    /// The least kinds into which these fit and the first of others, which are as many.
+    fn merged_first(
+        &self,
+        alloc: Global,
+        merges: &mut Merges<'f>,
+        exceptions: &[&[u8]],
+        others: &Pile<'f>,
+        many: usize,
+    ) -> Result<Pile<'f>, NoMemory>
+        requires { length self.now ≡ length (take many others.now) }
+        ensures { IfOk result (λ pile. kinds_of pile ≡ merge_all (names exceptions.now)
+            (kinds_of self.now) (kinds_of (take many others.now))) }
+    {
+        let first = others.first(alloc, many)?;
+        let least = self.merged(alloc, merges, exceptions, &first);
+        drop(first);
+        least
+    }
+
     /// The least kinds into which both fit, of each place that both list.
     pub(crate) fn listed_merged(
         &self,
@@ -377,7 +399,8 @@ impl<'f> Pile<'f> {
             ≡ merge_all (names exceptions.now) (kinds_of self.now) (kinds_of other.now)) }
     {
         let one = self.first(alloc, other.len())?;
-        let other = other.first(alloc, self.len())?;
-        one.merged(alloc, merges, exceptions, &other)
+        let least = one.merged_first(alloc, merges, exceptions, other, self.len());
+        drop(one);
+        least
     }
 }

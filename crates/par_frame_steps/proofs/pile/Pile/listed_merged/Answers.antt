@@ -13,12 +13,11 @@ returns c =
     let ys = c.args.other.now in
     let one : c.in_ok-one.one ≡ take (length ys) xs =
     c.in_ok-one.ensures ∙ ap (λ (n : ℕ). take n xs) c.len.ensures in
-    let other : c.in_ok-other.other ≡ take (length xs) ys =
-    c.in_ok-other.ensures ∙ ap (λ (n : ℕ). take n ys) c.len-2.ensures in
-    IfOk-weaker c.merged.result _ _
+    IfOk-weaker c.merged_first-least.result _ _
     (λ pile is. is
-    ∙ ap (λ (ks : List PlaceKind). merge_all exc (kinds_of ks) (kinds_of c.in_ok-other.other)) one
-    ∙ ap (λ (ks : List PlaceKind). merge_all exc (kinds_of (take (length ys) xs)) (kinds_of ks))
-    other
+    ∙ ap (λ (ks : List PlaceKind). merge_all exc (kinds_of ks) (kinds_of (take c.len-2.result ys)))
+    one
+    ∙ ap (λ (n : ℕ). merge_all exc (kinds_of (take (length ys) xs)) (kinds_of (take n ys)))
+    c.len-2.ensures
     ∙ merge_first exc xs ys)
-    c.merged.ensures
+    c.merged_first-least.ensures
