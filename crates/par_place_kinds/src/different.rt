@@ -29,10 +29,19 @@ fn begins(kinds: &[PlaceKind], others: &[PlaceKind]) -> bool
 }
 
 /// Kinds, and the same once more as bytes where no name is long. Contracts see the kinds.
-#[derive(Drop)]
 pub(crate) struct Different<'f> {
     found: Lookup<'f>,
     spelling: Option<Spelling>,
+}
+
+// Written out, so that what owns one is proved without its parts.
+impl Drop for Different<'_> {
+    fn drop(self) {
+        let Different {
+            found: _,
+            spelling: _,
+        } = self;
+    }
 }
 
 impl<'f> Model for Different<'f> {

@@ -121,10 +121,19 @@ fn pairs_into(
 
 /// Kinds, each told by its place among the different ones, so that lists are compared a byte a
 /// kind. Other lists may share the different ones. Contracts see which kinds they are.
-#[derive(Drop)]
 pub struct FewKinds<'f> {
     different: Rc<Different<'f>>,
     numbers: Rc<Vec<u8>>,
+}
+
+// Written out, so that what owns one is proved without its parts.
+impl Drop for FewKinds<'_> {
+    fn drop(self) {
+        let FewKinds {
+            different: _,
+            numbers: _,
+        } = self;
+    }
 }
 
 impl<'f> Model for FewKinds<'f> {

@@ -46,13 +46,23 @@ fn first_slot(mark: u64) -> u8 {
 
 /// Kinds, each of which is looked for in few slots, and where these are taken by others, by its
 /// mark. Contracts see the kinds.
-#[derive(Drop)]
 pub(crate) struct Lookup<'f> {
     kinds: Vec<PlaceKind<'f>>,
     /// The marks of kinds.
     marks: Vec<u64>,
     /// The places of kinds.
     slots: [Option<u8>; SLOTS],
+}
+
+// Written out, so that what owns one is proved without its parts.
+impl Drop for Lookup<'_> {
+    fn drop(self) {
+        let Lookup {
+            kinds: _,
+            marks: _,
+            slots: _,
+        } = self;
+    }
 }
 
 impl<'f> Model for Lookup<'f> {

@@ -14,10 +14,16 @@ use std::marker::Model;
 use std::rc::Rc;
 
 /// Kinds, and the same once more where few of them are different. Contracts see the kinds.
-#[derive(Drop)]
 struct Kept<'f> {
     kinds: Vec<PlaceKind<'f>>,
     few: Option<FewKinds<'f>>,
+}
+
+// Written out, so that what owns one is proved without its parts.
+impl Drop for Kept<'_> {
+    fn drop(self) {
+        let Kept { kinds: _, few: _ } = self;
+    }
 }
 
 impl<'f> Model for Kept<'f> {
