@@ -8,13 +8,23 @@ use std::alloc::Global;
 use std::collections::BTreeMap;
 
 /// The classes that were named so far.
-#[derive(Drop)]
 pub struct Classes<'m, 'f> {
     /// The names of the classes of exceptions.
     exceptions: &'m [&'f [u8]],
     numbers: BTreeMap<&'f [u8], u16>,
     /// The name of each number.
     names: Vec<&'f [u8]>,
+}
+
+// Written out, so that what owns one is proved without its parts.
+impl Drop for Classes<'_, '_> {
+    fn drop(self) {
+        let Classes {
+            exceptions: _,
+            numbers: _,
+            names: _,
+        } = self;
+    }
 }
 
 impl<'m, 'f> Classes<'m, 'f> {

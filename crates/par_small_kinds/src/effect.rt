@@ -29,7 +29,6 @@ pub struct Change {
 }
 
 /// What code makes of a frame.
-#[derive(Drop)]
 pub struct Effect {
     pub changes: Vec<Change>,
     /// A bit for each local that is set.
@@ -38,6 +37,18 @@ pub struct Effect {
     pub taken: usize,
     /// What it pushes then, the last at the end.
     pub pushed: Vec<Held>,
+}
+
+// Written out, so that what owns one is proved without its parts.
+impl Drop for Effect {
+    fn drop(self) {
+        let Effect {
+            changes: _,
+            sets: _,
+            taken: _,
+            pushed: _,
+        } = self;
+    }
 }
 
 impl Effect {
