@@ -51,7 +51,6 @@ pub enum Flow {
 }
 
 /// An instruction.
-#[derive(Drop)]
 pub struct Act<'f> {
     /// It is never run: an index of a wrong kind, static and instance, or a return that does not
     /// fit.
@@ -61,4 +60,17 @@ pub struct Act<'f> {
     pub also: Also<'f>,
     pub leaves: Leaves<'f>,
     pub flow: Flow,
+}
+
+// Written out, so that what owns one is proved without its parts.
+impl Drop for Act<'_> {
+    fn drop(self) {
+        let Act {
+            wrong: _,
+            takes: _,
+            also: _,
+            leaves: _,
+            flow: _,
+        } = self;
+    }
 }

@@ -16,10 +16,16 @@ use std::marker::Model;
 const MOST: usize = 8;
 
 /// Kinds, and others into which they fit.
-#[derive(Drop)]
 struct Fit<'f> {
     one: FewKinds<'f>,
     other: FewKinds<'f>,
+}
+
+// Written out, so that what owns one is proved without its parts.
+impl Drop for Fit<'_> {
+    fn drop(self) {
+        let Fit { one: _, other: _ } = self;
+    }
 }
 
 impl<'f> Fit<'f> {
@@ -45,12 +51,22 @@ impl<'f> Fit<'f> {
 
 /// The last kinds that fitted into others, where the exceptions have the same names. Contracts see
 /// these names.
-#[derive(Drop)]
 pub(crate) struct Fits<'f> {
     exceptions: Vec<Vec<u8>>,
     kept: Vec<Fit<'f>>,
     /// Counts those that were kept.
     turn: usize,
+}
+
+// Written out, so that what owns one is proved without its parts.
+impl Drop for Fits<'_> {
+    fn drop(self) {
+        let Fits {
+            exceptions: _,
+            kept: _,
+            turn: _,
+        } = self;
+    }
 }
 
 impl<'f> Model for Fits<'f> {

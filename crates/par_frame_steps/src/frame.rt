@@ -13,12 +13,22 @@ use std::alloc::Global;
 
 /// What locals and operands hold; the operand that was pushed last stands last. Locals that are not
 /// listed hold anything, so that a frame takes no memory for them.
-#[derive(Drop)]
 pub struct PlaceFrame<'f> {
     /// How many locals there are, where no more are listed.
     pub many: usize,
     pub locals: Pile<'f>,
     pub stack: Pile<'f>,
+}
+
+// Written out, so that what owns a frame is proved without its parts.
+impl Drop for PlaceFrame<'_> {
+    fn drop(self) {
+        let PlaceFrame {
+            many: _,
+            locals: _,
+            stack: _,
+        } = self;
+    }
 }
 
 impl<'f> PlaceFrame<'f> {

@@ -54,11 +54,21 @@ pub(crate) fn are_same(own: &[Vec<u8>], others: &[&[u8]]) -> bool
 }
 
 /// Two pieces, and one of the least kinds into which both fit.
-#[derive(Drop)]
 struct Merge<'f> {
     one: Piece<'f>,
     other: Piece<'f>,
     least: Piece<'f>,
+}
+
+// Written out, so that what owns one is proved without its parts.
+impl Drop for Merge<'_> {
+    fn drop(self) {
+        let Merge {
+            one: _,
+            other: _,
+            least: _,
+        } = self;
+    }
 }
 
 impl<'f> Merge<'f> {
@@ -97,7 +107,6 @@ fn empty<'f>(alloc: Global) -> Result<Vec<Merge<'f>>, NoMemory>
 }
 
 /// The last merges of pieces, where the exceptions have the same names. Contracts see these names.
-#[derive(Drop)]
 pub struct Merges<'f> {
     exceptions: Vec<Vec<u8>>,
     /// Those of each place one behind another, or none at all.
@@ -106,6 +115,18 @@ pub struct Merges<'f> {
     turn: usize,
     /// What fits without a merge.
     pub(crate) fits: Fits<'f>,
+}
+
+// Written out, so that what owns one is proved without its parts.
+impl Drop for Merges<'_> {
+    fn drop(self) {
+        let Merges {
+            exceptions: _,
+            kept: _,
+            turn: _,
+            fits: _,
+        } = self;
+    }
 }
 
 impl<'f> Model for Merges<'f> {

@@ -64,12 +64,18 @@ pub(crate) fn pieces_into(exceptions: &[&[u8]], pieces: &[Piece], others: &[Piec
 }
 
 /// Pieces, one behind another. Copies have the same list, until one of them gets another.
-#[derive(Drop)]
 pub(crate) struct Pieces<'f> {
     /// None where there are no pieces.
     list: Option<Rc<Vec<Piece<'f>>>>,
     /// How the kinds of all of them are told, where that is known.
     few: Option<FewKinds<'f>>,
+}
+
+// Written out, so that what owns pieces is proved without their parts.
+impl Drop for Pieces<'_> {
+    fn drop(self) {
+        let Pieces { list: _, few: _ } = self;
+    }
 }
 
 impl<'f> Model for Pieces<'f> {
@@ -211,8 +217,9 @@ impl<'f> Pieces<'f> {
     pub(crate) fn change_to(&mut self, others: Pieces<'f>)
         ensures { self.new ≡ others.entry }
     {
-        self.list = others.list;
-        self.few = others.few;
+        let Pieces { list, few } = others;
+        self.list = list;
+        self.few = few;
     }
 
     /// The pieces, and one more behind them.

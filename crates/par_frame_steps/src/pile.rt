@@ -66,12 +66,22 @@ fn merged_pieces<'f>(
 
 /// Kinds on one another. Copies share those that stand below the last ones. Contracts see all of
 /// them, of which the one that was pushed last stands last.
-#[derive(Drop)]
 pub struct Pile<'f> {
     pieces: Pieces<'f>,
     rest: Vec<PlaceKind<'f>>,
     /// How the piece was told that was taken apart last: the next one may be like it.
     like: Option<FewKinds<'f>>,
+}
+
+// Written out, so that what owns a pile is proved without its parts.
+impl Drop for Pile<'_> {
+    fn drop(self) {
+        let Pile {
+            pieces: _,
+            rest: _,
+            like: _,
+        } = self;
+    }
 }
 
 impl<'f> Model for Pile<'f> {
