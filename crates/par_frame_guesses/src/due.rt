@@ -17,7 +17,6 @@ struct Nested {
 }
 
 /// Pieces that are to go on.
-#[derive(Drop)]
 pub(crate) struct Due {
     /// All pieces, those behind that are inside most loops.
     order: Vec<Nested>,
@@ -32,6 +31,21 @@ pub(crate) struct Due {
     /// The place of the one that went on last.
     at: usize,
     goes_ahead: bool,
+}
+
+// Written out, so that what owns one is proved without its parts.
+impl Drop for Due {
+    fn drop(self) {
+        let Due {
+            order: _,
+            ranks: _,
+            floors: _,
+            places: _,
+            top: _,
+            at: _,
+            goes_ahead: _,
+        } = self;
+    }
 }
 
 /// Of each piece the last one from which code goes back to it, or itself.

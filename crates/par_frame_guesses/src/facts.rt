@@ -11,7 +11,6 @@ use std::alloc::Global;
 const MOST_KINDS: usize = 12582912;
 
 /// What is known before each piece to which code comes.
-#[derive(Drop)]
 pub(crate) struct Facts {
     /// How many locals are listed.
     pub(crate) locals: usize,
@@ -20,6 +19,18 @@ pub(crate) struct Facts {
     due: Due,
     /// How many kinds are kept.
     kinds: usize,
+}
+
+// Written out, so that what owns one is proved without its parts.
+impl Drop for Facts {
+    fn drop(self) {
+        let Facts {
+            locals: _,
+            befores: _,
+            due: _,
+            kinds: _,
+        } = self;
+    }
 }
 
 /// Lets what rose before a piece go on by a way.

@@ -32,13 +32,24 @@ pub struct Guess<'f> {
 }
 
 /// The pieces of a method, and what is known before them.
-#[derive(Drop)]
 struct Sketch<'m, 'f> {
     classes: Classes<'m, 'f>,
     spots: Vec<Spot>,
     /// Of each piece the one that goes on for it.
     likes: Vec<usize>,
     facts: Facts,
+}
+
+// Written out, so that what owns one is proved without its parts.
+impl Drop for Sketch<'_, '_> {
+    fn drop(self) {
+        let Sketch {
+            classes: _,
+            spots: _,
+            likes: _,
+            facts: _,
+        } = self;
+    }
 }
 
 /// How many locals a frame lists: those that instructions can name.

@@ -16,7 +16,6 @@ const FEW: usize = 4;
 const ROUNDS: usize = 4;
 
 /// What is found of pieces.
-#[derive(Drop)]
 struct Alike {
     /// Of each piece whether it leaves each frame as it is.
     plain: Vec<bool>,
@@ -28,6 +27,19 @@ struct Alike {
     likes: Vec<usize>,
     /// Of each piece a plain one before which that is known which it leaves.
     behinds: Vec<Option<usize>>,
+}
+
+// Written out, so that what owns one is proved without its parts.
+impl Drop for Alike {
+    fn drop(self) {
+        let Alike {
+            plain: _,
+            handlers: _,
+            froms: _,
+            likes: _,
+            behinds: _,
+        } = self;
+    }
 }
 
 /// Whether a piece leaves each frame as it is.

@@ -26,13 +26,24 @@ pub(crate) struct Way {
 }
 
 /// A piece, and where it goes on.
-#[derive(Drop)]
 pub(crate) struct Spot {
     pub(crate) at: u32,
     pub(crate) effect: Effect,
     /// Those to frames that are told are left out: these do not rise.
     pub(crate) ways: Vec<Way>,
     pub(crate) is_told: bool,
+}
+
+// Written out, so that what owns one is proved without its parts.
+impl Drop for Spot {
+    fn drop(self) {
+        let Spot {
+            at: _,
+            effect: _,
+            ways: _,
+            is_told: _,
+        } = self;
+    }
 }
 
 /// A handler, and the way to it.
@@ -118,11 +129,21 @@ fn add_throws(
 }
 
 /// Where pieces begin and end.
-#[derive(Drop)]
 struct Outline<'c> {
     heads: Vec<bool>,
     numbers: Vec<Option<usize>>,
     handlers: Vec<Handler<'c>>,
+}
+
+// Written out, so that what owns one is proved without its parts.
+impl Drop for Outline<'_> {
+    fn drop(self) {
+        let Outline {
+            heads: _,
+            numbers: _,
+            handlers: _,
+        } = self;
+    }
 }
 
 /// Where the pieces of a method begin and end.
