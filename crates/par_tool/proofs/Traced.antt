@@ -2,7 +2,8 @@
 use Rattle.std.proofs.Common.{◌≡◌, ℕ, List, Option, sym, ap, subst, ◌∙◌, inr}
 use Rattle.std.specs.Prelude.{map}
 use Rattle.std.proofs.lemmas.List.{append-nil}
-use Rattle.par_io.specs.Causes.{FolderCounts, Makes, Files}
+use Rattle.par_io.specs.Causes.{FolderCounts, Makes, NoneFalls, Files}
+use Rattle.par_loader.proofs.Counting.{rose_since}
 use Rattle.par_lexer.specs.declared.cut.TheConstants.{LONGEST_SOURCE}
 use Rattle.par_typed.specs.declared.table.Table.{Table}
 use Rattle.par_typed.specs.Plain.{Body}
@@ -21,8 +22,13 @@ use Rattle.par_trace.specs.Channels.{first_misfit}
 use Rattle.par_trace.specs.Texts as told
 use Rattle.par_tool.specs.Outside.{Text, WasRead}
 use Rattle.par_tool.specs.Sources.{ReadSource, IsSecureAs}
-use Rattle.par_tool.specs.Given.{AreInputs}
-use Rattle.par_tool.specs.Traces.{IsSourceIn, IsTraced, LacksMemory, source_run}
+use Rattle.par_tool.specs.declared.answer.Answer.TheVariants.{Absent, TooLong, ReadFault}
+use Rattle.par_tool.specs.declared.answer.Answer.TheVariants.{BadInputs}
+use Rattle.par_tool.specs.declared.reads.Failure.{Failure}
+use Rattle.par_tool.specs.declared.reads.Failure.TheVariants.{Answered, Memory}
+use Rattle.par_tool.specs.Failures.{IsFailure}
+use Rattle.par_tool.specs.Given.{AreInputs, HasBadLine, IsUngiven}
+use Rattle.par_tool.specs.Traces.{IsSourceIn, IsTraced, LacksMemory, Untraced, source_run}
 
 -- the run of a program is that of its tree
 of_tree : (typed : Typed) (tree : Source) (lists : Inputs) (bound : ℕ)
@@ -84,3 +90,53 @@ traced files file name bound n typed run lists same read given is =
             ∙ of_tree typed own.tree lists bound table_is own.keeps.1.bodies_are;
       };
     }
+
+-- the inputs were not given
+pub untraced : (files : Option Files) (before between after : FolderCounts) (file name : Text)
+    (typed : Typed) → ReadSource files file (λ source. IsSecureAs source typed)
+    → Makes 2 0 before after → NoneFalls before between → (failure : Failure)
+    → IsFailure (IsUngiven (first_misfit typed.table) files between after name) failure
+    → IsFailure (Untraced files before after file name) failure
+untraced files before between after file name typed read makes falls (Answered Absent) h =
+    let is : IsSecureAs read.0 typed = read.2 in
+    inr (
+      makes,
+      (
+        is.accepted.tree,
+        source_in files file read.0 typed read.1 is,
+        (rose_since _ _ _ falls.1 h.0, h.1),
+      ),
+    )
+untraced files before between after file name typed read makes falls (Answered TooLong) h =
+    let is : IsSecureAs read.0 typed = read.2 in
+    inr (
+      makes,
+      (
+        is.accepted.tree,
+        source_in files file read.0 typed read.1 is,
+        (rose_since _ _ _ falls.2 h.0, h.1),
+      ),
+    )
+untraced files before between after file name typed read makes falls (Answered ReadFault) h =
+    let is : IsSecureAs read.0 typed = read.2 in
+    inr (
+      makes,
+      (
+        is.accepted.tree,
+        source_in files file read.0 typed read.1 is,
+        rose_since _ _ _ falls.0 h,
+      ),
+    )
+untraced files before between after file name typed read makes falls
+    (Answered (BadInputs number)) h =
+    let is : IsSecureAs read.0 typed = read.2 in (
+      makes,
+      (
+        is.accepted.tree,
+        source_in files file read.0 typed read.1 is,
+        subst (λ (t : Table). HasBadLine (first_misfit t) files name number)
+            is.accepted.keeps.1.table_is h,
+      ),
+    )
+untraced files before between after file name typed read makes falls (Answered _) h = absurd h
+untraced files before between after file name typed read makes falls Memory h = tt

@@ -3,6 +3,9 @@
 
 ghost use Rattle.std.specs.Prelude.{◌≡◌, IsTrue, IfOk, IfErr, OnOk};
 ghost use Rattle.par_io.specs.Causes.{Makes, NoneFalls};
+ghost use Rattle.par_values.specs.declared.inputs.Inputs.{Inputs as Lists};
+ghost use Rattle.par_run_laws.specs.Source.{source};
+ghost use Rattle.par_meaning.specs.Whole.{as_run};
 ghost use Rattle.par_trace.specs.Channels.{first_misfit};
 ghost use Rattle.par_tool.specs.Failures.{IsFailure, FaultsAreTold};
 ghost use Rattle.par_tool.specs.Given.{AreInputs, IsUngiven};
@@ -20,10 +23,16 @@ use par_values::inputs::Inputs;
 use std::alloc::Global;
 
 /// The program of an accepted source, and a run of it.
-#[derive(Drop)]
 pub struct Traced {
     pub typed: Typed,
     pub run: SourceRun,
+}
+
+// Written out, so that what owns one is proved without its parts.
+impl Drop for Traced {
+    fn drop(self) {
+        let Traced { typed: _, run: _ } = self;
+    }
 }
 
 /// The inputs in an input file, all of which the program has channels for.
@@ -49,6 +58,31 @@ fn inputs<F: Folder>(
     }
 }
 
+/// The run of a program on the inputs in an input file, with at most so many steps.
+fn run_on<F: Folder>(
+    alloc: Global,
+    folder: &mut F,
+    typed: &Typed,
+    name: &str,
+    bound: u32,
+) -> Result<SourceRun, Failure>
+    ensures kept { F.files folder.new ≡ F.files folder.old }
+    ensures counted { Makes 1 0 (F.counts folder.old) (F.counts folder.new) }
+    ensures faults_are_told { IsTrue F.counts_faults_alone →
+        FaultsAreTold result (F.counts folder.old).faults (F.counts folder.new).faults }
+    ensures ran { IfOk result (λ made. (lists : Lists)
+        × AreInputs (first_misfit typed.now.table) (F.files folder.old) name.now lists
+        × (as_run made ≡ source typed.now lists bound)) }
+    ensures failed { IfErr result (IsFailure (IsUngiven (first_misfit typed.now.table)
+        (F.files folder.old) (F.counts folder.old) (F.counts folder.new) name.now)) }
+{
+    let inputs = inputs(alloc, folder, &typed.table, name)?;
+    match run_source(alloc, typed, &inputs, u64::from(bound)) {
+        Ok(run) => Ok(run),
+        Err(_) => Err(Failure::Memory),
+    }
+}
+
 /// The run of the source in a file on the inputs in another, with at most so many steps.
 pub fn trace_source<F: Folder>(
     alloc: Global,
@@ -70,9 +104,11 @@ pub fn trace_source<F: Folder>(
         file.now name.now) }
 {
     let typed = program_source(alloc, folder, file)?;
-    let inputs = inputs(alloc, folder, &typed.table, name)?;
-    match run_source(alloc, &typed, &inputs, u64::from(bound)) {
+    match run_on(alloc, folder, &typed, name, bound) {
         Ok(run) => Ok(Traced { typed, run }),
-        Err(_) => Err(Failure::Memory),
+        Err(failure) => {
+            drop(typed);
+            Err(failure)
+        }
     }
 }
