@@ -10,6 +10,8 @@ mod erased;
 #[cfg(test)]
 mod files;
 #[cfg(test)]
+mod items;
+#[cfg(test)]
 mod large;
 #[cfg(test)]
 mod large_files;
