@@ -1,5 +1,7 @@
 -- How each form completes, and which breaks are inside.
-use Rattle.std.proofs.Common.{◌≡◌, ℕ, Bool, true, false, not, ◌||◌, refl}
+use Rattle.std.proofs.Common.{◌≡◌, ℕ, Bool, true, false, not, ◌||◌, refl, sym, ap}
+use Rattle.par_tree.specs.declared.expr.ExprKind.{ExprKind, Field', Call', Neg', Not', Binary'}
+use Rattle.par_tree.specs.declared.expr.ExprKind.TheVariants as expr
 use Rattle.par_tree.specs.declared.ident.Ident.{Ident}
 use Rattle.par_tree.specs.declared.policy.LockTree.{LockTree}
 use Rattle.par_tree.specs.Plain.{Exp, MayExp, Local}
@@ -8,6 +10,7 @@ use Rattle.par_tree.specs.Plain.{Close}
 use Rattle.par_tree.specs.Plain.{Declare, Assign, Do, When, Braces, In, MayBraces, NoBraces, Some}
 use Rattle.par_tree.specs.Plain.{Else, NoElse, Otherwise, Stas, End, Then, Catches, NoCatch, Catch}
 use Rattle.par_tree.specs.Plain.{Handler, On}
+use Rattle.par_tree.specs.Shown.{kind_at}
 use Rattle.par_tree.proofs.Shown.{braces_is, handler_is, doings}
 use Rattle.par_completes.specs.Completes.{is_true, breaks, braces_break, may_braces_break}
 use Rattle.par_completes.specs.Completes.{else_breaks, some_break}
@@ -15,6 +18,28 @@ use Rattle.par_completes.specs.Completes.{some_catch_breaks, handler_breaks}
 use Rattle.par_completes.specs.Completes.{completes, braces_complete, may_braces_complete}
 use Rattle.par_completes.specs.Completes.{else_completes}
 use Rattle.par_completes.specs.Completes.{last_completes, some_catch_completes, handler_completes}
+
+-- the literal `true`
+pub literal_true : (k : ExprKind) (at : ℕ) → k ≡ expr.True → true ≡ is_true (kind_at k at)
+unfolding is_true kind_at
+literal_true k at is = sym (ap (λ (x : ExprKind). is_true (kind_at x at)) is)
+
+-- no other form is one
+pub no_literal_true : (k : ExprKind) (at : ℕ) → (k ≡ expr.True → ⊥)
+    → false ≡ is_true (kind_at k at)
+unfolding is_true kind_at
+no_literal_true (expr.Int n) at other = refl
+no_literal_true expr.True at other = absurd (other refl)
+no_literal_true expr.False at other = refl
+no_literal_true expr.Null at other = refl
+no_literal_true expr.This at other = refl
+no_literal_true (expr.New class) at other = refl
+no_literal_true (expr.Name n) at other = refl
+no_literal_true (Field' p k a f) at other = refl
+no_literal_true (Call' o method shape row) at other = refl
+no_literal_true (Neg' p k a) at other = refl
+no_literal_true (Not' p k a) at other = refl
+no_literal_true (Binary' op p j a q k b) at other = refl
 
 pub breaks_block : (b : Braces) (at : ℕ) →
     breaks (Block b at)

@@ -9,24 +9,10 @@ use crate::break_inside::block_breaks;
 use par_tree::expr::{Expr, ExprKind};
 use par_tree::stmt::{Block, CatchTree, Stmt, StmtKind};
 
-#[tactic(auto, using(par_tree::proofs::Shown::shows), unfolding(crate::specs::Completes::is_true))]
 fn is_true(expr: &Expr) -> bool
     ensures { result ≡ tree.is_true (shown expr.now) }
 {
-    match &expr.kind {
-        ExprKind::True => true,
-        ExprKind::Int(_)
-        | ExprKind::False
-        | ExprKind::Null
-        | ExprKind::This
-        | ExprKind::New(_)
-        | ExprKind::Name(_)
-        | ExprKind::Field(_, _)
-        | ExprKind::Call(_, _, _)
-        | ExprKind::Neg(_)
-        | ExprKind::Not(_)
-        | ExprKind::Binary(_, _, _) => false,
-    }
+    matches!(&expr.kind, ExprKind::True)
 }
 
 /// Whether the statement can complete normally.
