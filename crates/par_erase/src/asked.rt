@@ -56,16 +56,16 @@ fn gather(found: &mut Lockset, stmt: &TStmt) -> Result<(), NoMemory>
             gather(found, body)?;
             gather_else(found, other)
         }
-        TStmtKind::Return(_)
-        | TStmtKind::Break
-        | TStmtKind::Continue
-        | TStmtKind::Throw(_)
-        | TStmtKind::OpenLock(_)
-        | TStmtKind::CloseLock(_)
-        | TStmtKind::SetLocal(_, _, _)
-        | TStmtKind::SetStatic(_, _, _)
-        | TStmtKind::SetField(_, _, _, _)
-        | TStmtKind::Eval(_) => Ok(()),
+        TStmtKind::Return(_) => Ok(()),
+        TStmtKind::Break => Ok(()),
+        TStmtKind::Continue => Ok(()),
+        TStmtKind::Throw(_) => Ok(()),
+        TStmtKind::OpenLock(_) => Ok(()),
+        TStmtKind::CloseLock(_) => Ok(()),
+        TStmtKind::SetLocal(_, _, _) => Ok(()),
+        TStmtKind::SetStatic(_, _, _) => Ok(()),
+        TStmtKind::SetField(_, _, _, _) => Ok(()),
+        TStmtKind::Eval(_) => Ok(()),
     }
 }
 

@@ -5,17 +5,21 @@ ghost use Rattle.std.specs.List.{AllByRecursion};
 ghost use Rattle.par_base.specs.Names.{IsName};
 ghost use Rattle.par_typed.specs.par_policy.Numbers.{has};
 ghost use Rattle.par_typed.specs.Shown.{bodies};
-ghost use Rattle.par_erase.specs.Shown.{does, method_info, param_info, class_info, own_bodies};
+ghost use Rattle.par_erase.specs.Shown.{does, field_info, method_info, param_info, class_info};
+ghost use Rattle.par_erase.specs.Shown.{own_bodies};
 ghost use Rattle.par_erase.specs.Named.{IsNamed, AreNamed};
 ghost use Rattle.par_erase.specs.Shown.{class_bodies, table_of, bodies_of};
-ghost use Rattle.par_erase.specs.Erased.{inputs_in, inputs_among, erased_param};
+ghost use Rattle.par_erase.specs.Erased.{inputs_in, inputs_among, outputs_among, erased_param};
+ghost use Rattle.par_erase.specs.Erased.{erased_field};
 ghost use Rattle.par_erase.specs.Erased.{erased_method, erased_class};
 ghost use Rattle.par_erase.specs.Erased.{erased_table, erased_bodies, first_body, handed};
 ghost use Rattle.par_erase.specs.Erased.{classes_bodies};
 
 use crate::asked::asked_in;
-use crate::members::{copy_name, copy_types, erase_fields, erase_params, part_channels};
-use crate::program::{Plain, PlainClass, PlainMethod};
+use crate::members::{
+    ChannelNames, copy_name, copy_types, erase_fields, erase_params, part_channels,
+};
+use crate::program::{Plain, PlainClass, PlainField, PlainMethod};
 use crate::stmt::PStmt;
 use crate::stmts::erase_stmt;
 use par_base::list::List;
@@ -115,6 +119,35 @@ fn erase_methods(
     Ok(found)
 }
 
+// What a class has beside its methods.
+#[derive(Drop)]
+struct Outline {
+    name: Name,
+    fields: List<PlainField>,
+    channels: ChannelNames,
+}
+
+fn erase_outline(alloc: Global, class: &ClassInfo) -> Result<Outline, NoMemory>
+    ensures name { IfOk result (λ o. o.name ≡ class.now.name) }
+    ensures named { IfOk result (λ o. IsName o.name) }
+    ensures fields { IfOk result (λ o.
+        map field_info o.fields ≡ map erased_field class.now.fields) }
+    ensures fields_named { IfOk result (λ o.
+        AllByRecursion (λ f. IsName f.name) (map field_info o.fields)) }
+    ensures inputs { IfOk result (λ o.
+        o.channels.inputs ≡ inputs_among class.now.channels) }
+    ensures outputs { IfOk result (λ o.
+        o.channels.outputs ≡ outputs_among class.now.channels) }
+    ensures inputs_named { IfOk result (λ o. AllByRecursion IsName o.channels.inputs) }
+    ensures outputs_named { IfOk result (λ o. AllByRecursion IsName o.channels.outputs) }
+{
+    Ok(Outline {
+        name: copy_name(alloc, &class.name)?,
+        fields: erase_fields(alloc, class.fields.as_slice())?,
+        channels: part_channels(alloc, class.channels.as_slice())?,
+    })
+}
+
 fn erase_class(
     alloc: Global,
     table: &Table,
@@ -128,14 +161,15 @@ fn erase_class(
     ensures bodies { IfOk result (λ k. own_bodies (inputs_in table.now) k
         ≡ handed table.now (has asked.now) class.now.methods (bodies all.now)) }
 {
-    let channels = part_channels(alloc, class.channels.as_slice())?;
+    let methods = erase_methods(alloc, table, asked, class.methods.as_slice(), all)?;
+    let outline = erase_outline(alloc, class)?;
     Ok(PlainClass {
-        name: copy_name(alloc, &class.name)?,
+        name: outline.name,
         exception: class.exception,
-        fields: erase_fields(alloc, class.fields.as_slice())?,
-        inputs: channels.inputs,
-        outputs: channels.outputs,
-        methods: erase_methods(alloc, table, asked, class.methods.as_slice(), all)?,
+        fields: outline.fields,
+        inputs: outline.channels.inputs,
+        outputs: outline.channels.outputs,
+        methods,
     })
 }
 
