@@ -13,12 +13,20 @@ use par_base::name::Name;
 use std::alloc::Global;
 
 /// Names in an order, each with the first place where it stands. A name may stand more than once.
-#[derive(Drop)]
 pub struct NameIndex<'a> {
     names: Vec<&'a [u8]>,
     /// Where each name stands first, if there are many. A few names are searched.
     firsts: Firsts<&'a [u8]>,
     ghost placed: { FEW < length names.items → ArePlaced names.items firsts },
+}
+
+impl Drop for NameIndex<'_> {
+    fn drop(self) {
+        let NameIndex {
+            names: _,
+            firsts: _,
+        } = self;
+    }
 }
 
 // Where each name stands first, if there are many.

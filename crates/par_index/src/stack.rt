@@ -13,12 +13,20 @@ use std::marker::Model;
 
 /// Names that come into scope one after another, of which the last ones leave first. A name may
 /// stand more than once. Contracts see a stack as the list of its names, the last one last.
-#[derive(Drop)]
 pub struct NameStack<'a> {
     names: Vec<&'a [u8]>,
     /// Where each name stands first. What is kept of a name that has left does no harm: a place
     /// counts only where the name stands there.
     firsts: HashMap<&'a [u8], usize>,
+}
+
+impl Drop for NameStack<'_> {
+    fn drop(self) {
+        let NameStack {
+            names: _,
+            firsts: _,
+        } = self;
+    }
 }
 
 impl<'a> Model for NameStack<'a> {
