@@ -12,7 +12,6 @@ pub struct Program {
     pub decls: List<Decl>,
 }
 
-#[derive(Drop)]
 pub enum Decl {
     Actors(List<Ident>),
     Lock(LockDecl),
@@ -20,8 +19,15 @@ pub enum Decl {
     Class(ClassDecl),
 }
 
+impl Drop for Decl {
+    fn drop(self) {
+        match self {
+            Decl::Actors(_) | Decl::Lock(_) | Decl::Policy(_) | Decl::Class(_) => {}
+        }
+    }
+}
+
 /// A lock, or a family of locks.
-#[derive(Drop)]
 pub struct LockDecl {
     pub id: Ident,
     /// How many actors choose a lock of the family: none, one or two.
@@ -30,14 +36,28 @@ pub struct LockDecl {
     pub policy: Option<PolicyExpr>,
 }
 
-#[derive(Drop)]
+impl Drop for LockDecl {
+    fn drop(self) {
+        let LockDecl {
+            id: _,
+            arity: _,
+            policy: _,
+        } = self;
+    }
+}
+
 pub struct PolicyDecl {
     pub id: Ident,
     pub policy: PolicyExpr,
 }
 
+impl Drop for PolicyDecl {
+    fn drop(self) {
+        let PolicyDecl { id: _, policy: _ } = self;
+    }
+}
+
 /// A class, or an exception class, which has no members.
-#[derive(Drop)]
 pub struct ClassDecl {
     pub id: Ident,
     pub exception: bool,
@@ -48,7 +68,19 @@ pub struct ClassDecl {
     pub methods: List<MethodDecl>,
 }
 
-#[derive(Drop)]
+impl Drop for ClassDecl {
+    fn drop(self) {
+        let ClassDecl {
+            id: _,
+            exception: _,
+            birth: _,
+            fields: _,
+            channels: _,
+            methods: _,
+        } = self;
+    }
+}
+
 pub struct FieldDecl {
     pub id: Ident,
     pub is_static: bool,
@@ -58,15 +90,35 @@ pub struct FieldDecl {
     pub inferred: bool,
 }
 
+impl Drop for FieldDecl {
+    fn drop(self) {
+        let FieldDecl {
+            id: _,
+            is_static: _,
+            ty: _,
+            policy: _,
+            inferred: _,
+        } = self;
+    }
+}
+
 /// A channel of numbers, into the program or out of it.
-#[derive(Drop)]
 pub struct ChannelDecl {
     pub id: Ident,
     pub is_input: bool,
     pub policy: Option<PolicyExpr>,
 }
 
-#[derive(Drop)]
+impl Drop for ChannelDecl {
+    fn drop(self) {
+        let ChannelDecl {
+            id: _,
+            is_input: _,
+            policy: _,
+        } = self;
+    }
+}
+
 pub struct ParamDecl {
     pub id: Ident,
     pub ty: TypeTree,
@@ -74,14 +126,32 @@ pub struct ParamDecl {
     pub notnull: bool,
 }
 
+impl Drop for ParamDecl {
+    fn drop(self) {
+        let ParamDecl {
+            id: _,
+            ty: _,
+            policy: _,
+            notnull: _,
+        } = self;
+    }
+}
+
 /// A class that a method may throw, and who may learn of it.
-#[derive(Drop)]
 pub struct ThrowDecl {
     pub class: Ident,
     pub policy: PolicyExpr,
 }
 
-#[derive(Drop)]
+impl Drop for ThrowDecl {
+    fn drop(self) {
+        let ThrowDecl {
+            class: _,
+            policy: _,
+        } = self;
+    }
+}
+
 pub struct MethodDecl {
     pub id: Ident,
     pub is_static: bool,
@@ -97,4 +167,22 @@ pub struct MethodDecl {
     pub closes: List<LockTree>,
     pub throws: List<ThrowDecl>,
     pub body: Block,
+}
+
+impl Drop for MethodDecl {
+    fn drop(self) {
+        let MethodDecl {
+            id: _,
+            is_static: _,
+            result: _,
+            policy: _,
+            params: _,
+            effects: _,
+            expects: _,
+            opens: _,
+            closes: _,
+            throws: _,
+            body: _,
+        } = self;
+    }
 }

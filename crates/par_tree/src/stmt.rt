@@ -24,13 +24,24 @@ pub struct CatchTree {
 }
 
 /// The declaration of a local, with its first value.
-#[derive(Drop)]
 pub struct LocalDecl {
     pub id: Ident,
     pub ty: TypeTree,
     pub policy: Option<PolicyExpr>,
     pub notnull: bool,
     pub value: Expr,
+}
+
+impl Drop for LocalDecl {
+    fn drop(self) {
+        let LocalDecl {
+            id: _,
+            ty: _,
+            policy: _,
+            notnull: _,
+            value: _,
+        } = self;
+    }
 }
 
 /// A statement with its place: that of the target in an assignment, of the call, of the declared
