@@ -9,7 +9,6 @@ use par_lexer::name::Name;
 use par_policy::{Lockset, Policy};
 
 /// A lock, or one lock of a family with the actors that choose it.
-#[derive(Drop)]
 pub struct GroundLock {
     pub name: Name,
     pub actors: List<u8>,
@@ -18,7 +17,16 @@ pub struct GroundLock {
     pub policy: Option<u16>,
 }
 
-#[derive(Drop)]
+impl Drop for GroundLock {
+    fn drop(self) {
+        let GroundLock {
+            name: _,
+            actors: _,
+            policy: _,
+        } = self;
+    }
+}
+
 pub struct FieldInfo {
     pub name: Name,
     pub is_static: bool,
@@ -29,12 +37,33 @@ pub struct FieldInfo {
     pub inferred: bool,
 }
 
+impl Drop for FieldInfo {
+    fn drop(self) {
+        let FieldInfo {
+            name: _,
+            is_static: _,
+            ty: _,
+            policy: _,
+            inferred: _,
+        } = self;
+    }
+}
+
 /// A channel of numbers, into the program or out of it.
-#[derive(Drop)]
 pub struct ChannelInfo {
     pub name: Name,
     pub is_input: bool,
     pub policy: u16,
+}
+
+impl Drop for ChannelInfo {
+    fn drop(self) {
+        let ChannelInfo {
+            name: _,
+            is_input: _,
+            policy: _,
+        } = self;
+    }
 }
 
 #[derive(Drop)]
@@ -51,7 +80,6 @@ pub struct ThrowInfo {
     pub policy: u16,
 }
 
-#[derive(Drop)]
 pub struct MethodInfo {
     pub name: Name,
     pub at: u32,
@@ -71,8 +99,27 @@ pub struct MethodInfo {
     pub throws: List<ThrowInfo>,
 }
 
+impl Drop for MethodInfo {
+    fn drop(self) {
+        let MethodInfo {
+            name: _,
+            at: _,
+            nodes: _,
+            is_static: _,
+            result: _,
+            policy: _,
+            params: _,
+            locals: _,
+            effect: _,
+            expects: _,
+            opens: _,
+            closes: _,
+            throws: _,
+        } = self;
+    }
+}
+
 /// A class, whose fields, channels and methods are each numbered in source order.
-#[derive(Drop)]
 pub struct ClassInfo {
     pub name: Name,
     pub at: u32,
@@ -84,8 +131,21 @@ pub struct ClassInfo {
     pub methods: List<MethodInfo>,
 }
 
+impl Drop for ClassInfo {
+    fn drop(self) {
+        let ClassInfo {
+            name: _,
+            at: _,
+            exception: _,
+            birth: _,
+            fields: _,
+            channels: _,
+            methods: _,
+        } = self;
+    }
+}
+
 /// What a program declares. Each list is by numbers.
-#[derive(Drop)]
 pub struct Table {
     /// In source order.
     pub actors: List<Name>,
@@ -99,6 +159,18 @@ pub struct Table {
     pub classes: List<ClassInfo>,
     /// The class of the method `main`.
     pub main: u16,
+}
+
+impl Drop for Table {
+    fn drop(self) {
+        let Table {
+            actors: _,
+            locks: _,
+            policies: _,
+            classes: _,
+            main: _,
+        } = self;
+    }
 }
 
 /// Who may learn that an object of this class is made. It takes no memory.
