@@ -127,31 +127,45 @@ fn check_stmt<'a>(
     ensures declared { OnOk result (scope.new ≡ declares (does s.now) scope.old) }
 {
     match &s.kind {
-        StmtKind::Block(block) => check_block(alloc, view, home, scope, block, findings)?,
+        StmtKind::Block(block) => check_block(alloc, view, home, scope, block, findings),
         StmtKind::If(test, block, other) => {
             check_arm(alloc, view, home, scope, block, test, findings)?;
-            check_else(alloc, view, home, scope, other, findings)?;
+            check_else(alloc, view, home, scope, other, findings)
         }
-        StmtKind::While(test, block) => check_arm(alloc, view, home, scope, block, test, findings)?,
+        StmtKind::While(test, block) => check_arm(alloc, view, home, scope, block, test, findings),
         StmtKind::Try(block, catches) => {
             check_block(alloc, view, home, scope, block, findings)?;
             check_caught(alloc, catches.as_slice(), findings)?;
-            check_catches(alloc, view, home, scope, catches.as_slice(), findings)?;
+            check_catches(alloc, view, home, scope, catches.as_slice(), findings)
         }
         StmtKind::When(lock, block, other) => {
             check_lock(view, lock, findings);
             check_block(alloc, view, home, scope, block, findings)?;
-            check_else_block(alloc, view, home, scope, other, findings)?;
+            check_else_block(alloc, view, home, scope, other, findings)
         }
-        StmtKind::Local(local) => check_local(view, home, scope, local, findings)?,
-        StmtKind::Assign(target, value) => check_both(view, home, scope, target, value, findings),
-        StmtKind::Call(call) => check_expr(view, home, scope, call, findings),
-        StmtKind::Return(value) => check_value(view, home, scope, value, findings),
-        StmtKind::Throw(class) => check_class(view, class, findings),
-        StmtKind::OpenLock(lock) | StmtKind::CloseLock(lock) => check_lock(view, lock, findings),
-        StmtKind::Break | StmtKind::Continue => {}
+        StmtKind::Local(local) => check_local(view, home, scope, local, findings),
+        StmtKind::Assign(target, value) => {
+            check_both(view, home, scope, target, value, findings);
+            Ok(())
+        }
+        StmtKind::Call(call) => {
+            check_expr(view, home, scope, call, findings);
+            Ok(())
+        }
+        StmtKind::Return(value) => {
+            check_value(view, home, scope, value, findings);
+            Ok(())
+        }
+        StmtKind::Throw(class) => {
+            check_class(view, class, findings);
+            Ok(())
+        }
+        StmtKind::OpenLock(lock) | StmtKind::CloseLock(lock) => {
+            check_lock(view, lock, findings);
+            Ok(())
+        }
+        StmtKind::Break | StmtKind::Continue => Ok(()),
     }
-    Ok(())
 }
 
 // A block, and the test before it.

@@ -20,9 +20,9 @@ pub use body::check_body;
 pub use builtin::builtin_classes;
 pub use doubles::check_doubles;
 pub use lookup::{ClassNames, Classes, Locks};
-pub use named::{Named, index, index_of, push_ids, push_named};
+pub use named::{Named, index, index_named, index_of, push_ids, push_named};
 pub use par_index;
 pub use policy::{
     check_class, check_lock, check_locks, check_may_policy, check_policy, check_result, check_type,
 };
-pub use view::{Declared, Home, View, actors, classes, locks, policies};
+pub use view::{Declared, Home, View, actors, classes, declared_classes, locks, policies};

@@ -8,7 +8,7 @@ ghost use Rattle.par_names.specs.Members.{field_named, channel_named, method_nam
 ghost use Rattle.par_names.specs.Members.{earlier_callee, selected_named, callee_named};
 ghost use Rattle.par_names.specs.Indexed.{AreLocks, AreMembers, AreClasses};
 
-use crate::named::{index, index_of, push_named};
+use crate::named::{index_named, index_of};
 use par_index::NameIndex;
 use par_index::par_base::list::List;
 use par_index::par_base::memory::NoMemory;
@@ -17,11 +17,16 @@ use par_tree::decl::{ChannelDecl, ClassDecl, FieldDecl, LockDecl, MethodDecl};
 use std::alloc::Global;
 
 /// Locks in the order of their declarations, each found by its name.
-#[derive(Drop)]
 pub struct Locks<'a> {
     decls: List<&'a LockDecl>,
     names: NameIndex<'a>,
     ghost named: { AreLocks (map (λ decl. decl.now) decls) names },
+}
+
+impl Drop for Locks<'_> {
+    fn drop(self) {
+        let Locks { decls: _, names: _ } = self;
+    }
 }
 
 impl<'a> Locks<'a> {
@@ -29,9 +34,7 @@ impl<'a> Locks<'a> {
     pub fn of(alloc: Global, decls: Vec<&'a LockDecl>) -> Result<Locks<'a>, NoMemory>
         ensures { IfOk result (λ locks. locks.decls ≡ decls.entry.items) }
     {
-        let mut ids = Vec::new(alloc);
-        push_named(&mut ids, decls.as_slice())?;
-        let names = index(alloc, ids.as_slice())?;
+        let names = index_named(alloc, decls.as_slice())?;
         Ok(Locks {
             decls: List::wrap(decls),
             names,
@@ -58,13 +61,23 @@ impl<'a> Locks<'a> {
 }
 
 /// A class whose members are found by their names.
-#[derive(Drop)]
 pub struct ClassNames<'a> {
     decl: &'a ClassDecl,
     fields: NameIndex<'a>,
     channels: NameIndex<'a>,
     methods: NameIndex<'a>,
     ghost named: { AreMembers decl.now fields channels methods },
+}
+
+impl Drop for ClassNames<'_> {
+    fn drop(self) {
+        let ClassNames {
+            decl: _,
+            fields: _,
+            channels: _,
+            methods: _,
+        } = self;
+    }
 }
 
 impl<'a> ClassNames<'a> {
@@ -172,11 +185,19 @@ impl<'a> ClassNames<'a> {
 }
 
 /// Classes in an order, each found by its name.
-#[derive(Drop)]
 pub struct Classes<'a> {
     members: List<ClassNames<'a>>,
     names: NameIndex<'a>,
     ghost named: { AreClasses (map (λ class. class.decl.now) members) names },
+}
+
+impl Drop for Classes<'_> {
+    fn drop(self) {
+        let Classes {
+            members: _,
+            names: _,
+        } = self;
+    }
 }
 
 impl<'a> Classes<'a> {
@@ -185,9 +206,7 @@ impl<'a> Classes<'a> {
         ensures { IfOk result (λ classes.
             map (λ class. class.decl.now) classes.members ≡ map (λ decl. decl.now) decls.now) }
     {
-        let mut ids = Vec::new(alloc);
-        push_named(&mut ids, decls)?;
-        let names = index(alloc, ids.as_slice())?;
+        let names = index_named(alloc, decls)?;
         let members = all_members(alloc, decls)?;
         Ok(Classes { members, names })
     }
@@ -217,7 +236,8 @@ fn all_members<'a>(alloc: Global, decls: &[&'a ClassDecl]) -> Result<List<ClassN
 {
     let mut members = List::new(alloc);
     for decl in decls {
-        members.push(ClassNames::of(alloc, decl)?)?;
+        let class = ClassNames::of(alloc, decl)?;
+        members.push(class)?;
     }
     Ok(members)
 }

@@ -128,6 +128,16 @@ pub fn index<'a>(alloc: Global, ids: &[&'a Ident]) -> Result<NameIndex<'a>, NoMe
     NameIndex::of(alloc, names)
 }
 
+/// An index of the names of these, which stand apart.
+pub fn index_named<'a, T: Named>(alloc: Global, items: &[&'a T]) -> Result<NameIndex<'a>, NoMemory>
+    ensures { IfOk result (λ index. texts index.names.items
+        ≡ map (λ id. id.name) (map T.named (map (λ item. item.now) items.now))) }
+{
+    let mut ids = Vec::new(alloc);
+    push_named(&mut ids, items)?;
+    index(alloc, ids.as_slice())
+}
+
 /// An index of the names of these.
 pub fn index_of<'a, T: Named>(alloc: Global, items: &'a [T]) -> Result<NameIndex<'a>, NoMemory>
     ensures { IfOk result (λ index.

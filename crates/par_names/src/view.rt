@@ -8,7 +8,7 @@ ghost use Rattle.par_names.specs.Seen.{classes_seen, locks_seen, ShowsProgram};
 ghost use Rattle.par_index.specs.Texts.{texts};
 
 use crate::lookup::{ClassNames, Classes, Locks};
-use crate::named::{index, push_ids, push_named};
+use crate::named::{index, index_named, push_ids};
 use par_index::NameIndex;
 use par_index::par_base::memory::NoMemory;
 use par_tree::decl::{ClassDecl, Decl, LockDecl, PolicyDecl, Program};
@@ -16,12 +16,22 @@ use par_tree::ident::Ident;
 use std::alloc::Global;
 
 /// What a program declares, each kind in the order of the source.
-#[derive(Drop)]
 pub struct Declared<'a> {
     pub actors: NameIndex<'a>,
     pub locks: Locks<'a>,
     pub policies: NameIndex<'a>,
     pub classes: Classes<'a>,
+}
+
+impl Drop for Declared<'_> {
+    fn drop(self) {
+        let Declared {
+            actors: _,
+            locks: _,
+            policies: _,
+            classes: _,
+        } = self;
+    }
 }
 
 /// What a place of a program sees: all that is declared, but of the policies only as many as end
@@ -50,8 +60,8 @@ impl<'a> Declared<'a> {
             ShowsProgram (map class_of builtins.now) (source program.now) shown) }
     {
         let actors = actor_index(alloc, program)?;
-        let locks = lock_index(alloc, program)?;
         let policies = policy_index(alloc, program)?;
+        let locks = lock_index(alloc, program)?;
         let classes = class_index(alloc, builtins, program)?;
         Ok(Declared {
             actors,
@@ -83,9 +93,7 @@ fn policy_index<'a>(alloc: Global, program: &'a Program) -> Result<NameIndex<'a>
         ≡ map (λ policy. policy.id.name) (declared.policies (source program.now))) }
 {
     let policies = policies(alloc, program)?;
-    let mut ids = Vec::new(alloc);
-    push_named(&mut ids, policies.as_slice())?;
-    index(alloc, ids.as_slice())
+    index_named(alloc, policies.as_slice())
 }
 
 fn class_index<'a>(
@@ -160,6 +168,19 @@ pub fn classes<'a>(
     for class in builtins {
         found.push(class)?;
     }
+    push_classes(&mut found, program)?;
+    Ok(found)
+}
+
+/// The declared classes.
+pub fn declared_classes<'a>(
+    alloc: Global,
+    program: &'a Program,
+) -> Result<Vec<&'a ClassDecl>, NoMemory>
+    ensures { IfOk result (λ found. map (λ class. class_of class.now) found.items
+        ≡ declared.declared_classes (source program.now)) }
+{
+    let mut found = Vec::new(alloc);
     push_classes(&mut found, program)?;
     Ok(found)
 }
