@@ -75,10 +75,7 @@ all_stay k x read all =
 pub one_more : (old new : List Read) (r : Read) (e : PolicyExpr) → new ≡ old ++ r ∷ []
     → r.expr.now ≡ e → StillRead old new e (Some r.policy)
 one_more old new r e is same k all so =
-    let more = with_value k (Some r.policy) in
-    subst (λ rs. AreRead more rs) (sym is)
-    (All-append (λ s. value_of more s.expr.now ≡ Some s.policy) old (r ∷ [])
-    (all_stay k (Some r.policy) old all)
-    (All-cons (λ s. value_of more s.expr.now ≡ Some s.policy) r []
-    (ap (value_of more) same ∙ value_stays k (Some r.policy) e r.policy (sym so))
-    (All-nil (λ s. value_of more s.expr.now ≡ Some s.policy))))
+    subst (λ rs. AreRead k rs) (sym is)
+    (All-append (λ s. value_of k s.expr.now ≡ Some s.policy) old (r ∷ []) all
+    (All-cons (λ s. value_of k s.expr.now ≡ Some s.policy) r [] (ap (value_of k) same ∙ sym so)
+    (All-nil (λ s. value_of k s.expr.now ≡ Some s.policy))))

@@ -7,6 +7,7 @@ pub mod Later
 pub mod Loops
 pub mod Steps
 pub mod Earlier
+pub mod Exceeded
 pub mod Alike
 pub mod Made
 pub mod Found

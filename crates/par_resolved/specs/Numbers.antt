@@ -33,13 +33,17 @@ firsts_from actors first [] = []
 firsts_from actors first (lock ∷ locks) =
     first ∷ firsts_from actors (first + ground_count actors lock) locks
 
+-- the numbers of these actors and of the locks that are declared so
+abbrev pub numbers_of : List Ident → List LockDecl → Numbers
+numbers_of actors locks = record {
+  actors = map (λ a. a.name) actors;
+  locks = map (λ l. l.id.name) locks;
+  firsts = firsts_from (length actors) 0 locks;
+}
+
 -- actors and declarations of locks in source order
 abbrev pub numbers : Source → Numbers
-numbers source = record {
-  actors = map (λ a. a.name) (actors source);
-  locks = map (λ l. l.id.name) (locks source);
-  firsts = firsts_from (length (actors source)) 0 (locks source);
-}
+numbers source = numbers_of (actors source) (locks source)
 
 -- ---- uses
 

@@ -7,7 +7,7 @@ use Rattle.par_tree.specs.declared.policy.PolicyExpr.{PolicyExpr}
 use Rattle.par_resolved.specs.declared.numbers.Numbers as code
 use Rattle.par_resolved.specs.declared.read.Read.{Read}
 use Rattle.par_resolved.specs.SeenNumbers.{seen}
-use Rattle.par_resolved.specs.Policies.{Known, value_of, with_value}
+use Rattle.par_resolved.specs.Policies.{Known, value_of}
 
 -- what is known by these numbers, names and values
 abbrev pub known_by : code.Numbers → NameIndex → List (Option (List Clause)) → Known
@@ -23,5 +23,4 @@ AreRead k read = All (λ r. value_of k r.expr.now ≡ Some r.policy) read
 
 -- what was read still is, and what the expression comes to is read too
 abbrev pub StillRead : List Read → List Read → PolicyExpr → Option (List Clause) → Type 0
-StillRead old new e value =
-    (k : Known) → AreRead k old → value ≡ value_of k e → AreRead (with_value k value) new
+StillRead old new e value = (k : Known) → AreRead k old → value ≡ value_of k e → AreRead k new

@@ -11,10 +11,15 @@ use par_typed::par_policy::Policy;
 use std::alloc::Global;
 
 /// A policy of the table, and the place that it is counted at.
-#[derive(Drop)]
 pub struct Entry {
     pub at: u32,
     pub policy: Policy,
+}
+
+impl Drop for Entry {
+    fn drop(self) {
+        let Entry { at: _, policy: _ } = self;
+    }
 }
 
 /// Pushes the entries of these expressions.

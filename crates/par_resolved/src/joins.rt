@@ -33,7 +33,7 @@ fn have_few_locks(clauses: &[Clause]) -> bool
 }
 
 /// Notes that a limit is exceeded by this count, if there is one.
-#[tactic(auto, using(par_refusals::proofs::First::notes), unfolding(crate::specs::Sizes::exceeded_by))]
+#[tactic(auto, using(crate::proofs::Exceeded::exceeds))]
 pub fn note_exceeded(limit: u8, at: u32, count: Option<usize>, findings: &mut Findings)
     ensures { findings.new ≡ first_of findings.old (exceeded_by limit at count) }
 {

@@ -27,13 +27,23 @@ use std::alloc::Global;
 
 /// What a policy expression is read by: numbers, the names of all declared policies, and what the
 /// first of them come to.
-#[derive(Drop)]
 pub struct Known<'a> {
     pub numbers: Numbers<'a>,
     pub names: NameIndex<'a>,
     pub values: Vec<Option<Policy>>,
     read: Vec<Read<'a>>,
     ghost told: { AreRead (known_by numbers names values.items) read.items },
+}
+
+impl Drop for Known<'_> {
+    fn drop(self) {
+        let Known {
+            numbers: _,
+            names: _,
+            values: _,
+            read: _,
+        } = self;
+    }
 }
 
 /// The numbers of these locks.
@@ -170,30 +180,18 @@ impl<'a> Known<'a> {
         }
     }
 
-    /// What is known once the next declared policy is read, which comes to this.
-    pub(crate) fn with_value(
-        self,
+    /// Reads the next declared policy, which comes to this.
+    pub(crate) fn add_value(
+        &mut self,
         expr: &'a PolicyExpr,
         value: Option<Policy>,
-    ) -> Result<Known<'a>, NoMemory>
-        requires { value ≡ value_of (known_seen self) expr.now }
-        ensures { IfOk result (λ k.
-            known_seen k ≡ with_value (known_seen self.entry) value) }
+    ) -> Result<(), NoMemory>
+        requires { value ≡ value_of (known_seen self.old) expr.now }
+        ensures { OnOk result (known_seen self.new ≡ with_value (known_seen self.old) value) }
     {
-        let Known {
-            numbers,
-            names,
-            mut values,
-            mut read,
-        } = self;
-        push_read(&mut read, expr, &value)?;
-        values.push(value)?;
-        Ok(Known {
-            numbers,
-            names,
-            values,
-            read,
-        })
+        push_read(&mut self.read, expr, &value)?;
+        self.values.push(value)?;
+        Ok(())
     }
 
     /// The same, by which no join among these expressions is worked out again, up to the first that
@@ -201,19 +199,26 @@ impl<'a> Known<'a> {
     pub fn with_joins(self, alloc: Global, exprs: &[&'a PolicyExpr]) -> Result<Known<'a>, NoMemory>
         ensures { IfOk result (λ k. known_seen k ≡ known_seen self.entry) }
     {
-        let read = self.read_joins(alloc, exprs)?;
-        let Known {
-            numbers,
-            names,
-            values,
-            read: _,
-        } = self;
-        Ok(Known {
-            numbers,
-            names,
-            values,
-            read,
-        })
+        match self.read_joins(alloc, exprs) {
+            Err(error) => {
+                drop(self);
+                Err(error)
+            }
+            Ok(read) => {
+                let Known {
+                    numbers,
+                    names,
+                    values,
+                    read: _,
+                } = self;
+                Ok(Known {
+                    numbers,
+                    names,
+                    values,
+                    read,
+                })
+            }
+        }
     }
 
     // What the joins among these come to, up to the first that exceeds a limit.

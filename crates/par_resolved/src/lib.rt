@@ -6,7 +6,6 @@
 #![tactic(auto)]
 
 pub mod births;
-pub mod declared;
 pub mod entries;
 mod firsts;
 mod forms;

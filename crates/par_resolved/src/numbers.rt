@@ -1,27 +1,41 @@
 // Actors and ground locks by their numbers.
-ghost use Rattle.std.specs.Prelude.{◌≡◌, ◌≤◌, IfOk, map, length};
+ghost use Rattle.std.specs.Prelude.{◌≡◌, ◌≤◌, IfOk, map, length, sum_by};
 ghost use Rattle.par_tree.specs.Shown.{source};
+ghost use Rattle.par_parts.specs.Gathered.{all_of};
+ghost use Rattle.par_names.specs.Declarations as names;
 ghost use Rattle.par_resolved.specs.Few.{IsFew, HasFew};
 ghost use Rattle.par_resolved.specs.Numbers.{actor_number, lock_number, place_in_family};
+ghost use Rattle.par_resolved.specs.Numbers.{ground_count, numbers_of};
 
-use crate::declared::{actor_names, lock_names, locks};
 use crate::firsts::firsts;
+use crate::limits::{MOST_ACTORS, MOST_GROUND_LOCKS};
 use par_base::memory::NoMemory;
 use par_names::par_index::NameIndex;
-use par_tree::decl::Program;
+use par_names::{actors, index, index_named, locks};
+use par_tree::decl::{LockDecl, Program};
 use par_tree::ident::Ident;
 use par_tree::policy::LockTree;
 use std::alloc::Global;
 
 /// The declared actors and locks of a program that is within their limits, with the numbers of the
 /// first ground locks of each declaration.
-#[derive(Drop)]
 pub struct Numbers<'a> {
     actors: NameIndex<'a>,
     actor_count: u8,
     locks: NameIndex<'a>,
     firsts: Vec<u16>,
     ghost few: { IsFew actors actor_count firsts.items },
+}
+
+impl Drop for Numbers<'_> {
+    fn drop(self) {
+        let Numbers {
+            actors: _,
+            actor_count: _,
+            locks: _,
+            firsts: _,
+        } = self;
+    }
 }
 
 impl<'a> Numbers<'a> {
@@ -33,13 +47,43 @@ impl<'a> Numbers<'a> {
         requires { HasFew (source program.now) }
         ensures { IfOk result (λ n. seen n ≡ numbers (source program.now)) }
     {
-        let names = actor_names(alloc, program)?;
-        let actor_count = names.as_slice().len() as u8;
-        let actors = NameIndex::of(alloc, names)?;
+        let ids = actors(alloc, program)?;
+        let numbers = Numbers::of_actors(alloc, ids.as_slice(), program);
+        drop(ids);
+        numbers
+    }
+
+    // The actors of a program, which are these, and its locks.
+    fn of_actors(
+        alloc: Global,
+        ids: &[&'a Ident],
+        program: &'a Program,
+    ) -> Result<Numbers<'a>, NoMemory>
+        requires few { HasFew (source program.now) }
+        requires actors { all_of ids.now ≡ names.actors (source program.now) }
+        ensures { IfOk result (λ n. seen n ≡ numbers (source program.now)) }
+    {
         let decls = locks(alloc, program)?;
-        let firsts = firsts(alloc, actor_count, decls.as_slice())?;
-        let names = lock_names(alloc, decls.as_slice())?;
-        let locks = NameIndex::of(alloc, names)?;
+        let numbers = Numbers::of_declared(alloc, ids, decls.as_slice());
+        drop(decls);
+        numbers
+    }
+
+    // These actors, and the locks that are declared so.
+    fn of_declared(
+        alloc: Global,
+        ids: &[&'a Ident],
+        decls: &[&'a LockDecl],
+    ) -> Result<Numbers<'a>, NoMemory>
+        requires few_actors { length ids.now ≤ MOST_ACTORS }
+        requires few_locks { sum_by (ground_count (length ids.now)) (all_of decls.now)
+            ≤ MOST_GROUND_LOCKS }
+        ensures { IfOk result (λ n. seen n ≡ numbers_of (all_of ids.now) (all_of decls.now)) }
+    {
+        let actor_count = ids.len() as u8;
+        let firsts = firsts(alloc, actor_count, decls)?;
+        let actors = index(alloc, ids)?;
+        let locks = index_named(alloc, decls)?;
         Ok(Numbers {
             actors,
             actor_count,

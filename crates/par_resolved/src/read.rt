@@ -1,5 +1,5 @@
 // Declared policies that were read.
-ghost use Rattle.std.specs.Prelude.{OnOk};
+ghost use Rattle.std.specs.Prelude.{◌≡◌, OnErr, OnOk};
 ghost use Rattle.par_resolved.specs.Read.{StillRead};
 
 use par_base::memory::NoMemory;
@@ -8,10 +8,15 @@ use par_typed::par_policy::Policy;
 use std::alloc::Global;
 
 /// An expression, and the policy that it comes to.
-#[derive(Drop)]
 pub(crate) struct Read<'a> {
     pub(crate) expr: &'a PolicyExpr,
     pub(crate) policy: Policy,
+}
+
+impl Drop for Read<'_> {
+    fn drop(self) {
+        let Read { expr: _, policy: _ } = self;
+    }
 }
 
 /// Notes what the expression of the next declared policy comes to, if it is within its limits.
@@ -20,7 +25,8 @@ pub(crate) fn push_read<'a>(
     expr: &'a PolicyExpr,
     value: &Option<Policy>,
 ) -> Result<(), NoMemory>
-    ensures { OnOk result (StillRead read.old.items read.new.items expr.now value.now) }
+    ensures still { OnOk result (StillRead read.old.items read.new.items expr.now value.now) }
+    ensures kept { OnErr result (read.new.items ≡ read.old.items) }
 {
     match value {
         None => Ok(()),

@@ -2,6 +2,7 @@
 ghost use Rattle.std.specs.Prelude.{◌≡◌, None, flat_map, map, IfOk, OnOk};
 ghost use Rattle.par_tree.specs.Shown.{source};
 ghost use Rattle.par_names.specs.par_index.Texts.{texts};
+ghost use Rattle.par_names.specs.Declarations as names;
 ghost use Rattle.par_refusals.specs.First.{first_of};
 ghost use Rattle.par_resolved.specs.Few.{HasFew};
 ghost use Rattle.par_resolved.specs.Policies.{known, known_behind, with_value, value_of};
@@ -9,11 +10,11 @@ ghost use Rattle.par_resolved.specs.Sizes.{expression_faults};
 ghost use Rattle.par_resolved.specs.Seen.{known_seen};
 ghost use Rattle.par_parts.specs.Gathered.{all_of};
 
-use crate::declared::{policies, policy_names};
 use crate::known::Known;
 use crate::numbers::Numbers;
 use par_base::memory::NoMemory;
 use par_names::par_index::NameIndex;
+use par_names::{index_named, policies};
 use par_refusals::refusal::{Findings, Refusal};
 use par_tree::decl::{PolicyDecl, Program};
 use par_tree::policy::PolicyExpr;
@@ -25,19 +26,34 @@ pub fn known(alloc: Global, program: &Program) -> Result<Known<'_>, NoMemory>
     ensures { IfOk result (λ k. known_seen k ≡ known (source program.now)) }
 {
     let decls = policies(alloc, program)?;
-    let names = index_of(alloc, decls.as_slice())?;
+    let known = known_of(alloc, program, decls.as_slice());
+    drop(decls);
+    known
+}
+
+// The same, where these are its declared policies.
+fn known_of<'a>(
+    alloc: Global,
+    program: &'a Program,
+    decls: &[&'a PolicyDecl],
+) -> Result<Known<'a>, NoMemory>
+    requires few { HasFew (source program.now) }
+    requires declared { all_of decls.now ≡ names.policies (source program.now) }
+    ensures { IfOk result (λ k. known_seen k ≡ known (source program.now)) }
+{
+    let names = policy_index(alloc, decls)?;
     let numbers = Numbers::of(alloc, program)?;
     let known = Known::nothing(alloc, numbers, names);
-    read_declared(alloc, known, decls.as_slice())
+    read_declared(alloc, known, decls)
 }
 
 // The names of these declarations.
-fn index_of<'a>(alloc: Global, decls: &[&'a PolicyDecl]) -> Result<NameIndex<'a>, NoMemory>
+#[tactic(auto, using(par_names::proofs::Lookups::mapped))]
+fn policy_index<'a>(alloc: Global, decls: &[&'a PolicyDecl]) -> Result<NameIndex<'a>, NoMemory>
     ensures { IfOk result (λ index.
         texts index.names.items ≡ map (λ d. d.id.name) (all_of decls.now)) }
 {
-    let names = policy_names(alloc, decls)?;
-    NameIndex::of(alloc, names)
+    index_named(alloc, decls)
 }
 
 // Reads these declarations, each by what is known behind those before it.
@@ -52,23 +68,17 @@ fn read_declared<'a>(
 {
     let mut read = known;
     for decl in decls {
-        read = with_declared(alloc, read, decl)?;
+        read_next(alloc, &mut read, decl)?;
     }
     Ok(read)
 }
 
-fn with_declared<'a>(
-    alloc: Global,
-    known: Known<'a>,
-    decl: &'a PolicyDecl,
-) -> Result<Known<'a>, NoMemory>
-    ensures { IfOk result (λ k.
-        known_seen k
-        ≡ with_value (known_seen known.entry)
-        (value_of (known_seen known.entry) decl.now.policy)) }
+fn read_next<'a>(alloc: Global, known: &mut Known<'a>, decl: &'a PolicyDecl) -> Result<(), NoMemory>
+    ensures { OnOk result (known_seen known.new
+        ≡ with_value (known_seen known.old) (value_of (known_seen known.old) decl.now.policy)) }
 {
     let value = known.value_of(alloc, &decl.policy)?;
-    known.with_value(&decl.policy, value)
+    known.add_value(&decl.policy, value)
 }
 
 // Notes the limits that the joins of an expression exceed. What a join has that exceeds one is

@@ -5,8 +5,8 @@ use Rattle.par_resolved.proofs.scope.read_declared.Goals as goal
 pub loop-decl-preserved : goal.loop-decl-preserved
 loop-decl-preserved c =
     read_more c.args.decls.now c.loop-decl.decl-index c.decl-item.result
-    (known_seen c.loop-decl.read) (known_seen c.in_ok-read.read) _ c.loop-decl-test.true
-    c.decl-item.is c.in_ok-read.ensures c.loop-decl.invariant
+    (known_seen c.loop-decl.read) (known_seen c.read_next.new.known) _ c.loop-decl-test.true
+    c.decl-item.is c.in_ok-read_next.ensures c.loop-decl.invariant
 
 pub returns : goal.returns
 returns c =
