@@ -12,10 +12,9 @@ use crate::asked::push_asked;
 use par_parts::queried::queried;
 use par_resolved::NoMemory;
 use par_resolved::births::birth_policy;
-use par_resolved::declared::locks;
 use par_resolved::entries::{Entry, push_written, sort_entries};
 use par_resolved::known::{Known, bottom};
-use par_resolved::par_names::Locks;
+use par_resolved::par_names::{Locks, locks};
 use par_tree::decl::{ClassDecl, Program};
 use par_tree::policy::PolicyExpr;
 use std::alloc::Global;
@@ -25,10 +24,12 @@ fn push_queries(alloc: Global, found: &mut Vec<Entry>, program: &Program) -> Res
     ensures { OnOk result (found.new.items
         ≡ found.old.items ++ query_entries (source program.now)) }
 {
+    let queries = queried(alloc, program)?;
     let decls = locks(alloc, program)?;
     let locks = Locks::of(alloc, decls)?;
-    let queries = queried(alloc, program)?;
-    push_asked(alloc, found, &locks, queries.as_slice())
+    let pushed = push_asked(alloc, found, &locks, queries.as_slice());
+    drop(locks);
+    pushed
 }
 
 // `bottom`, and what is written by place.

@@ -22,10 +22,10 @@ use par_parts::written::written;
 use par_refusals::refusal::{Findings, Refusal};
 use par_resolved::NoMemory;
 use par_resolved::births::check_birth;
-use par_resolved::declared::classes;
 use par_resolved::known::Known;
 use par_resolved::limits::MOST_POLICIES;
 use par_resolved::literals::first_literal;
+use par_resolved::par_names::declared_classes;
 use par_resolved::scope::{first_join, known};
 use par_tree::decl::{ClassDecl, Program};
 use par_tree::policy::PolicyExpr;
@@ -81,7 +81,7 @@ fn first_of_table(
         first ≡ first_of None (table_faults (known_seen known.now) (source program.now))) }
 {
     let mut findings = Findings::new();
-    let classes = classes(alloc, program)?;
+    let classes = declared_classes(alloc, program)?;
     check_policies(
         alloc,
         known,
@@ -131,11 +131,16 @@ fn look_by_names<'a>(
         IfSome found.known (λ k. known_seen k ≡ policies.known (source program.now))) }
 {
     let known = known(alloc, program)?.with_joins(alloc, exprs)?;
-    let first = first_by(alloc, &known, program, exprs)?;
-    Ok(Outcome {
-        first,
-        known: Some(known),
-    })
+    match first_by(alloc, &known, program, exprs) {
+        Err(error) => {
+            drop(known);
+            Err(error)
+        }
+        Ok(first) => Ok(Outcome {
+            first,
+            known: Some(known),
+        }),
+    }
 }
 
 /// Looks at the limits of policies, and at birth policies where they are written: the first limit
