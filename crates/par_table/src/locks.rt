@@ -19,10 +19,10 @@ ghost use Rattle.par_table.specs.Seen.{resolved_seen};
 
 use crate::resolved::Resolved;
 use par_lexer::list::List;
+use par_names::locks;
 use par_parts::queried::queried;
 use par_policy::Lockset;
 use par_resolved::NoMemory;
-use par_resolved::declared::locks;
 use par_resolved::known::top;
 use par_resolved::numbers::Numbers;
 use par_tree::decl::{LockDecl, Program};

@@ -10,10 +10,10 @@ ghost use Rattle.par_resolved.specs.Numbered.{same_policy, numbered, shared_poli
 ghost use Rattle.par_table.specs.Parts.{inferred_policies};
 
 use par_limits::{distinct_entries, entries, same_policy};
+use par_names::declared_classes;
 use par_parts::written::written;
 use par_policy::Policy;
 use par_resolved::NoMemory;
-use par_resolved::declared::classes;
 use par_resolved::entries::Entry;
 use par_resolved::known::{Known, bottom};
 use par_tree::decl::{ClassDecl, FieldDecl, Program};
@@ -49,7 +49,7 @@ pub fn shared_policies(
         found.items ≡ shared_policies (known_seen known.now) (source program.now)) }
 {
     let exprs = written(alloc, program)?;
-    let classes = classes(alloc, program)?;
+    let classes = declared_classes(alloc, program)?;
     let entries = entries(alloc, known, program, exprs.as_slice(), classes.as_slice())?;
     let distinct = distinct_entries(alloc, entries.as_slice())?;
     policies_of(alloc, distinct.as_slice())

@@ -16,6 +16,7 @@ ghost use Rattle.par_table.specs.Room.{FitsTable, AreFew};
 use crate::policies::{place_of, shared_policies};
 use par_index::NameIndex;
 use par_lexer::name::Name;
+use par_names::index_named;
 use par_policy::Policy;
 use par_resolved::known::Known;
 use par_resolved::{NoMemory, types};
@@ -26,7 +27,6 @@ use par_typed::ty::Ty;
 use std::alloc::Global;
 
 /// What is known of a program, the names of its classes, and the policies that have numbers.
-#[derive(Drop)]
 pub struct Resolved<'a> {
     pub known: &'a Known<'a>,
     classes: NameIndex<'a>,
@@ -34,16 +34,23 @@ pub struct Resolved<'a> {
     ghost few: { AreFew classes policies.items },
 }
 
-#[tactic(auto, using(par_parts::proofs::Pushes::pushes))]
-fn class_names<'a>(alloc: Global, decls: &[&'a ClassDecl]) -> Result<Vec<&'a [u8]>, NoMemory>
-    ensures { IfOk result (λ found.
-        texts found.items ≡ map (λ c. c.id.name) (classes_of decls.now)) }
-{
-    let mut found = Vec::new(alloc);
-    for decl in decls {
-        found.push(decl.id.name.bytes())?;
+impl Drop for Resolved<'_> {
+    fn drop(self) {
+        let Resolved {
+            known: _,
+            classes: _,
+            policies: _,
+        } = self;
     }
-    Ok(found)
+}
+
+// The names of these classes.
+#[tactic(auto, using(par_names::proofs::Lookups::mapped))]
+fn class_index<'a>(alloc: Global, decls: &[&'a ClassDecl]) -> Result<NameIndex<'a>, NoMemory>
+    ensures { IfOk result (λ index.
+        texts index.names.items ≡ map (λ c. c.id.name) (classes_of decls.now)) }
+{
+    index_named(alloc, decls)
 }
 
 // The number of a policy among these.
@@ -76,8 +83,7 @@ impl<'a> Resolved<'a> {
         ensures { IfOk result (λ r. resolved_seen r ≡ resolved (source program.now)) }
     {
         let policies = shared_policies(alloc, known, program)?;
-        let names = class_names(alloc, classes)?;
-        let classes = NameIndex::of(alloc, names)?;
+        let classes = class_index(alloc, classes)?;
         Ok(Resolved {
             known,
             classes,

@@ -60,8 +60,13 @@ fn build_by<'a>(
         known_seen built.known ≡ policies.known (source program.now)) }
 {
     let known = known_of(alloc, program, known)?;
-    let table = make(alloc, &known, program)?;
-    Ok(Built { table, known })
+    match make(alloc, &known, program) {
+        Err(error) => {
+            drop(known);
+            Err(error)
+        }
+        Ok(table) => Ok(Built { table, known }),
+    }
 }
 
 /// The table of a program that keeps the rules on names and the limits, with what is known of the
@@ -81,7 +86,10 @@ pub fn build_known(alloc: Global, program: &Program) -> Result<Built<'_>, NameEr
             let built = build_by(alloc, program, known)?;
             Ok(built)
         }
-        Some(first) => Err(NameError::Broken(first)),
+        Some(first) => {
+            drop(known);
+            Err(NameError::Broken(first))
+        }
     }
 }
 
@@ -94,6 +102,7 @@ pub fn build(alloc: Global, program: &Program) -> Result<Table, NameError>
     ensures refused { (f : Refusal) → result ≡ Err (Broken f)
         → IsFirst (all_faults (source program.now)) f }
 {
-    let Built { table, known: _ } = build_known(alloc, program)?;
+    let Built { table, known } = build_known(alloc, program)?;
+    drop(known);
     Ok(table)
 }

@@ -22,8 +22,7 @@ pub invariant_of-result : goal.invariant_of-result
 invariant_of-result c =
     let s = source c.args.program.now in
     let named : texts c.in_ok-classes.classes.names.items ≡ map (λ c. c.id.name) (classes s) =
-    c.in_ok-classes.ensures ∙ c.in_ok-names.ensures
-    ∙ ap (map (λ (c : Class). c.id.name)) c.requires.classes in
+    c.in_ok-classes.ensures ∙ ap (map (λ (c : Class). c.id.name)) c.requires.classes in
     let all : length (texts c.in_ok-classes.classes.names.items) ≡ length (classes s) =
     ap length named ∙ length-map (classes s) (λ (c : Class). c.id.name) in
     let shared : length c.in_ok-policies.policies.items ≡ length (shared_policies (known s) s) =
@@ -41,8 +40,7 @@ returns c =
     let s = source c.args.program.now in
     let made : Known → List (List ℕ) → List (List Clause) → Resolved =
     λ k c p. record { known = k; classes = c; policies = p } in
-    let named = c.in_ok-classes.ensures ∙ c.in_ok-names.ensures
-    ∙ ap (map (λ (c : Class). c.id.name)) c.requires.classes in
+    let named = c.in_ok-classes.ensures ∙ ap (map (λ (c : Class). c.id.name)) c.requires.classes in
     let shared = c.in_ok-policies.ensures ∙ ap (λ k. shared_policies k s) c.requires.known in
     ap (λ k. made k (texts c.in_ok-classes.classes.names.items) c.in_ok-policies.policies.items)
     c.requires.known
