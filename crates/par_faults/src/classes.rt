@@ -60,5 +60,7 @@ pub fn check_class(
         ≡ first_of findings.old (class_faults (seen view.now) (class_of class.now))) }
 {
     let own = ClassNames::of(alloc, class)?;
-    check_members(alloc, view, &own, class, findings)
+    let checked = check_members(alloc, view, &own, class, findings);
+    drop(own);
+    checked
 }

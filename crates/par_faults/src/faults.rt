@@ -125,5 +125,7 @@ pub fn first_fault(alloc: Global, program: &Program) -> Result<Option<Refusal>, 
     requires { source_size (source program.now) ≤ LONGEST_SOURCE }
     ensures { IfOk result (IsAnswer (all_faults (source program.now))) }
 {
-    Ok(look(alloc, program)?.first)
+    let Outcome { first, known } = look(alloc, program)?;
+    drop(known);
+    Ok(first)
 }

@@ -9,9 +9,9 @@ ghost use Rattle.par_faults.specs.Limits as place;
 
 use crate::limit::Limit;
 use par_lexer::memory::NoMemory;
+use par_names::Named;
 use par_refusals::refusal::{Findings, LIMIT_RULE, Refusal};
 use par_tree::decl::{ChannelDecl, ClassDecl, Decl, MethodDecl};
-use par_tree::ident::Ident;
 use std::alloc::Global;
 
 fn place(places: &[u32], number: usize) -> Option<u32>
@@ -37,11 +37,13 @@ pub fn check_places(limit: Limit, places: &[u32], findings: &mut Findings)
     }
 }
 
-fn push_idents(places: &mut Vec<u32>, ids: &[Ident]) -> Result<(), NoMemory>
-    ensures { OnOk result (places.new.items ≡ places.old.items ++ map (λ id. id.at) ids.now) }
+// Puts the places of the names of these behind the others.
+fn push_places<T: Named>(places: &mut Vec<u32>, items: &[T]) -> Result<(), NoMemory>
+    ensures { OnOk result (places.new.items
+        ≡ places.old.items ++ map (λ item. (T.named item).at) items.now) }
 {
-    for id in ids {
-        places.push(id.at)?;
+    for item in items {
+        places.push(item.id().at)?;
     }
     Ok(())
 }
@@ -53,7 +55,7 @@ pub fn actor_places(alloc: Global, decls: &[Decl]) -> Result<Vec<u32>, NoMemory>
     let mut places = Vec::new(alloc);
     for decl in decls {
         match decl {
-            Decl::Actors(ids) => push_idents(&mut places, ids.as_slice())?,
+            Decl::Actors(ids) => push_places(&mut places, ids.as_slice())?,
             Decl::Lock(_) | Decl::Policy(_) | Decl::Class(_) => {}
         }
     }
@@ -72,16 +74,6 @@ pub fn class_places(alloc: Global, decls: &[Decl]) -> Result<Vec<u32>, NoMemory>
         }
     }
     Ok(places)
-}
-
-fn push_channels(places: &mut Vec<u32>, channels: &[ChannelDecl]) -> Result<(), NoMemory>
-    ensures { OnOk result (places.new.items
-        ≡ places.old.items ++ map (λ c. c.id.at) channels.now) }
-{
-    for channel in channels {
-        places.push(channel.id.at)?;
-    }
-    Ok(())
 }
 
 // How many of these channels stand before this place, up to the first that does not.
@@ -109,11 +101,11 @@ pub fn member_places(alloc: Global, class: &ClassDecl) -> Result<Vec<u32>, NoMem
     for field in class.fields.as_slice() {
         let behind = &channels[next..];
         let earlier = earlier(behind, field.id.at);
-        push_channels(&mut places, &behind[..earlier])?;
+        push_places(&mut places, &behind[..earlier])?;
         places.push(field.id.at)?;
         next += earlier;
     }
-    push_channels(&mut places, &channels[next..])?;
+    push_places(&mut places, &channels[next..])?;
     Ok(places)
 }
 
@@ -122,8 +114,6 @@ pub fn method_places(alloc: Global, methods: &[MethodDecl]) -> Result<Vec<u32>, 
     ensures { IfOk result (λ places. places.items ≡ map (λ m. m.id.at) (tree.methods methods.now)) }
 {
     let mut places = Vec::new(alloc);
-    for method in methods {
-        places.push(method.id.at)?;
-    }
+    push_places(&mut places, methods)?;
     Ok(places)
 }
