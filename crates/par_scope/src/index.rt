@@ -8,6 +8,7 @@ ghost use Rattle.par_scope.specs.Names.{methods_in, IsFewTable, IsFewMembers};
 ghost use Rattle.par_scope.specs.Indexed.{members_indexed};
 
 use crate::member_index::{MemberIndex, members_of_class};
+use crate::named::by_name;
 use par_base::memory::NoMemory;
 use par_base::name::Name;
 use par_index::NameIndex;
@@ -48,10 +49,9 @@ impl<'a> TableIndex<'a> {
         ensures { IfOk result (λ index. index ≡ names_of table.now) }
     {
         let classes = table.classes.as_slice();
-        let names = class_names(alloc, classes)?;
         let members = members_of(alloc, classes)?;
         Ok(TableIndex {
-            classes: NameIndex::of(alloc, names)?,
+            classes: by_name(alloc, classes)?,
             members,
         })
     }
@@ -111,16 +111,6 @@ fn number_in(names: &NameIndex<'_>, name: &Name) -> Option<u16>
         None => None,
         Some(place) => Some(place as u16),
     }
-}
-
-fn class_names<'a>(alloc: Global, classes: &'a [ClassInfo]) -> Result<Vec<&'a [u8]>, NoMemory>
-    ensures { IfOk result (λ names. texts names.items ≡ map (λ c. c.name) classes.now) }
-{
-    let mut names = Vec::new(alloc);
-    for class in classes {
-        names.push(class.name.bytes())?;
-    }
-    Ok(names)
 }
 
 fn members_of<'a>(alloc: Global, classes: &'a [ClassInfo]) -> Result<Vec<MemberIndex<'a>>, NoMemory>

@@ -11,3 +11,4 @@ pub mod locals;
 pub mod meaning;
 mod member_index;
 pub mod members;
+mod named;
