@@ -110,9 +110,9 @@ fn class_body(
         (tok name.now ∷ []) a_decl (input cursor.old) result (input cursor.new) }
     ensures shorter { OnOk result (length cursor.new.left.now < length cursor.old.left.now) }
 {
+    let id = ident(alloc, name)?;
     let birth = may_policy(alloc, cursor)?;
     let members = members_in_braces(alloc, cursor)?;
-    let id = ident(alloc, name)?;
     Ok(Decl::Class(ClassDecl {
         id,
         exception: false,

@@ -51,8 +51,8 @@ pub fn method(
         (input cursor.old) result (input cursor.new) }
     ensures shorter { OnOk result (length cursor.new.left.now < length cursor.old.left.now) }
 {
-    let tail = tail_of(alloc, cursor)?;
     let id = ident(alloc, name)?;
+    let tail = tail_of(alloc, cursor)?;
     found.methods.push(MethodDecl {
         id,
         is_static: front.is_static,
