@@ -67,6 +67,31 @@ pub fn all_facts(alloc: Global, typed: &Typed) -> Result<List<FactTable>, NoMemo
     Ok(facts)
 }
 
+// The facts of all bodies of a program that keeps all rules on flows.
+fn kept_facts(alloc: Global, typed: &Typed) -> Result<List<FactTable>, CheckError>
+    requires policies { length typed.now.table.policies ≤ 256 }
+    requires classes { length typed.now.table.classes ≤ 65536 }
+    requires few { length typed.now.bodies ≤ MOST_BODIES }
+    requires orderly { AllByRecursion (IsOrderlyBody typed.now.table)
+        (shown.bodies typed.now.bodies) }
+    ensures kept { IfOk result (λ facts. IsAcceptedBy typed.now (map facts_in facts)) }
+    ensures accepted { IfOk result (λ _.
+        IsVerdict typed.now.table (shown.bodies typed.now.bodies) None) }
+    ensures refused { IfErr result (IsRefused typed.now) }
+{
+    let facts = all_facts(alloc, typed)?;
+    let first = first_broken(
+        alloc,
+        facts.as_slice(),
+        &typed.table,
+        typed.bodies.as_slice(),
+    )?;
+    match first {
+        Some(refusal) => Err(CheckError::Broken(refusal)),
+        None => Ok(facts),
+    }
+}
+
 /// The program with its facts, exactly where some closed facts of each body keep all rules: locks
 /// that are expected, closed and opened, values and contexts below the policies of what they go to,
 /// and exceptions. The facts of each body are closed and the least ones, and they keep all rules as
@@ -83,15 +108,11 @@ pub fn check(alloc: Global, typed: Typed) -> Result<Accepted, CheckError>
         IsVerdict typed.table (shown.bodies typed.bodies) None) }
     ensures refused { IfErr result (IsRefused typed) }
 {
-    let facts = all_facts(alloc, &typed)?;
-    let first = first_broken(
-        alloc,
-        facts.as_slice(),
-        &typed.table,
-        typed.bodies.as_slice(),
-    )?;
-    match first {
-        Some(refusal) => Err(CheckError::Broken(refusal)),
-        None => Ok(Accepted { typed, facts }),
+    match kept_facts(alloc, &typed) {
+        Err(error) => {
+            drop(typed);
+            Err(error)
+        }
+        Ok(facts) => Ok(Accepted { typed, facts }),
     }
 }
