@@ -6,7 +6,7 @@ use thiserror::Error;
 /// pool, or a branch's signed distance in bytes from the branch itself. `Short` variants keep
 /// their local, 0 to 3, in the opcode. The first number of `If` and `IfIcmp` is the comparison,
 /// 0 to 5 for eq, ne, lt, ge, gt, le.
-#[derive(Clone, Copy, Debug, PartialEq, Eq)]
+#[derive(Clone, Copy, PartialEq, Eq)]
 pub enum Instr {
     AconstNull,
     Iconst(i8),
