@@ -91,6 +91,10 @@ Fine vs = AllByRecursion IsFine vs
 abbrev pub Pays : ℕ → Values → Values → Type 0
 Pays most vs ws = (weights ws ≤ weights vs + most) × Fine ws
 
+-- values that stay pay for themselves
+same : (most : ℕ) (vs : Values) → Fine vs → Pays most vs vs
+same most vs h = (omega arith, h)
+
 -- ---- lists with one more item
 
 params_more : (ps : List ParamDecl) (p : ParamDecl)
@@ -134,16 +138,16 @@ result_within (Some t) = type_within t
 next_decl_pays : (vs : Values) → Fine vs → Pays 0 vs (next_decl vs)
 next_decl_pays (decl d ∷ source ds ∷ vs) h =
     let more = source_more ds d in (omega (arith, more), (tt, h.1.1))
-next_decl_pays vs h = (omega arith, h)
+next_decl_pays vs h = same 0 vs h
 
 exception_decl_pays : (vs : Values) → Fine vs → Pays 0 vs (exception_decl vs)
 exception_decl_pays (tok x ∷ vs) h = (omega (arith, h.0.0, h.0.1), (tt, h.1))
-exception_decl_pays vs h = (omega arith, h)
+exception_decl_pays vs h = same 0 vs h
 
 class_decl_pays : (vs : Values) → Fine vs → Pays 0 vs (class_decl vs)
 class_decl_pays (members ms ∷ may_whole p ∷ tok x ∷ vs) h =
     let name = h.1.1.0 in (omega (arith, name.0, name.1), (tt, h.1.1.1))
-class_decl_pays vs h = (omega arith, h)
+class_decl_pays vs h = same 0 vs h
 
 inferred_field_pays : (vs : Values) → Fine vs → Pays 2 vs (inferred_field vs)
 inferred_field_pays (tok x ∷ typed t ∷ flag s ∷ members ms ∷ vs) h =
@@ -156,7 +160,7 @@ inferred_field_pays (tok x ∷ typed t ∷ flag s ∷ members ms ∷ vs) h =
     }) in
     let two = type_within t in
     (omega (arith, h.0.0, h.0.1, more, two), (tt, h.1.1.1.1))
-inferred_field_pays vs h = (omega arith, h)
+inferred_field_pays vs h = same 2 vs h
 
 field_pays : (vs : Values) → Fine vs → Pays 2 vs (field vs)
 field_pays (tok x ∷ typed t ∷ flag s ∷ may_whole p ∷ members ms ∷ vs) h =
@@ -169,18 +173,18 @@ field_pays (tok x ∷ typed t ∷ flag s ∷ may_whole p ∷ members ms ∷ vs) 
     }) in
     let two = type_within t in
     (omega (arith, h.0.0, h.0.1, more, two), (tt, h.1.1.1.1.1))
-field_pays vs h = (omega arith, h)
+field_pays vs h = same 2 vs h
 
 channel_pays : (i : Bool) (n : ℕ) → cond i 3 4 ≤ n → (vs : Values) → Fine vs
     → Pays n vs (channel i vs)
 channel_pays i n most (tok x ∷ may_whole p ∷ members ms ∷ vs) h =
     let more = channels_more ms.channels (record { id = ident x; is_input = i; policy = p }) in
     (omega (arith, h.0.0, h.0.1, more, most), (tt, h.1.1.1))
-channel_pays i n most vs h = (omega arith, h)
+channel_pays i n most vs h = same n vs h
 
 some_result_pays : (vs : Values) → Fine vs → Pays 0 vs (some_result vs)
 some_result_pays (tok x ∷ typed t ∷ vs) h = (omega arith, (h.0, (tt, h.1.1)))
-some_result_pays vs h = (omega arith, h)
+some_result_pays vs h = same 0 vs h
 
 next_method_pays : (vs : Values) → Fine vs → Pays 3 vs (next_method vs)
 next_method_pays
@@ -201,256 +205,256 @@ next_method_pays
       body = b;
     }) in
     (omega (arith, name.0, name.1, more, two), (tt, h.1.1.1.1.1.1.1.1))
-next_method_pays vs h = (omega arith, h)
+next_method_pays vs h = same 3 vs h
 
 one_param_pays : (vs : Values) → Fine vs → Pays 1 vs (one_param vs)
 one_param_pays (tok x ∷ typed t ∷ flag n ∷ may_whole p ∷ vs) h =
     let two = type_within t in (omega (arith, h.0.0, two), (tt, h.1.1.1.1))
-one_param_pays vs h = (omega arith, h)
+one_param_pays vs h = same 1 vs h
 
 next_param_pays : (vs : Values) → Fine vs → Pays 0 vs (next_param vs)
 next_param_pays (param p ∷ listed ps ∷ vs) h =
     let more = params_more ps p in (omega (arith, more), (tt, h.1.1))
-next_param_pays vs h = (omega arith, h)
+next_param_pays vs h = same 0 vs h
 
 class_type_pays : (vs : Values) → Fine vs → Pays 0 vs (class_type vs)
 class_type_pays (tok x ∷ vs) h = (omega (arith, h.0.0, h.0.1), (tt, h.1))
-class_type_pays vs h = (omega arith, h)
+class_type_pays vs h = same 0 vs h
 
 whole_block_pays : (vs : Values) → Fine vs → Pays 0 vs (whole_block vs)
 whole_block_pays (stas ss ∷ tok x ∷ vs) h = let name = h.1.0 in (omega (arith, name.0), (tt, h.1.1))
-whole_block_pays vs h = (omega arith, h)
+whole_block_pays vs h = same 0 vs h
 
 -- ---- other builders
 
 actors_decl_pays : (vs : Values) → Fine vs → Pays 0 vs (actors_decl vs)
 actors_decl_pays (idents ids ∷ vs) h = (omega arith, (tt, h.1))
-actors_decl_pays vs h = (omega arith, h)
+actors_decl_pays vs h = same 0 vs h
 
 lock_decl_pays : (vs : Values) → Fine vs → Pays 0 vs (lock_decl vs)
 lock_decl_pays (may_whole p ∷ many n ∷ tok x ∷ vs) h = (omega arith, (tt, h.1.1.1))
-lock_decl_pays vs h = (omega arith, h)
+lock_decl_pays vs h = same 0 vs h
 
 policy_decl_pays : (vs : Values) → Fine vs → Pays 0 vs (policy_decl vs)
 policy_decl_pays (whole p ∷ tok x ∷ vs) h = (omega arith, (tt, h.1.1))
-policy_decl_pays vs h = (omega arith, h)
+policy_decl_pays vs h = same 0 vs h
 
 next_ident_pays : (vs : Values) → Fine vs → Pays 0 vs (next_ident vs)
 next_ident_pays (tok x ∷ idents ids ∷ vs) h = (omega arith, (tt, h.1.1))
-next_ident_pays vs h = (omega arith, h)
+next_ident_pays vs h = same 0 vs h
 
 next_write_pays : (vs : Values) → Fine vs → Pays 0 vs (next_write vs)
 next_write_pays (whole p ∷ says e ∷ vs) h = (omega arith, (tt, h.1.1))
-next_write_pays vs h = (omega arith, h)
+next_write_pays vs h = same 0 vs h
 
 next_expect_pays : (vs : Values) → Fine vs → Pays 0 vs (next_expect vs)
 next_expect_pays (lock l ∷ says e ∷ vs) h = (omega arith, (tt, h.1.1))
-next_expect_pays vs h = (omega arith, h)
+next_expect_pays vs h = same 0 vs h
 
 next_open_pays : (vs : Values) → Fine vs → Pays 0 vs (next_open vs)
 next_open_pays (lock l ∷ says e ∷ vs) h = (omega arith, (tt, h.1.1))
-next_open_pays vs h = (omega arith, h)
+next_open_pays vs h = same 0 vs h
 
 next_close_pays : (vs : Values) → Fine vs → Pays 0 vs (next_close vs)
 next_close_pays (lock l ∷ says e ∷ vs) h = (omega arith, (tt, h.1.1))
-next_close_pays vs h = (omega arith, h)
+next_close_pays vs h = same 0 vs h
 
 next_throw_pays : (vs : Values) → Fine vs → Pays 0 vs (next_throw vs)
 next_throw_pays (whole p ∷ tok x ∷ says e ∷ vs) h = (omega arith, (tt, h.1.1.1))
-next_throw_pays vs h = (omega arith, h)
+next_throw_pays vs h = same 0 vs h
 
 int_type_pays : (vs : Values) → Fine vs → Pays 0 vs (int_type vs)
 int_type_pays (tok x ∷ vs) h = (omega arith, (tt, h.1))
-int_type_pays vs h = (omega arith, h)
+int_type_pays vs h = same 0 vs h
 
 boolean_type_pays : (vs : Values) → Fine vs → Pays 0 vs (boolean_type vs)
 boolean_type_pays (tok x ∷ vs) h = (omega arith, (tt, h.1))
-boolean_type_pays vs h = (omega arith, h)
+boolean_type_pays vs h = same 0 vs h
 
 some_policy_pays : (vs : Values) → Fine vs → Pays 0 vs (some_policy vs)
 some_policy_pays (whole p ∷ vs) h = (omega arith, (tt, h.1))
-some_policy_pays vs h = (omega arith, h)
+some_policy_pays vs h = same 0 vs h
 
 first_term_pays : (vs : Values) → Fine vs → Pays 0 vs (first_term vs)
 first_term_pays (term t at ∷ vs) h = (omega arith, (tt, h.1))
-first_term_pays vs h = (omega arith, h)
+first_term_pays vs h = same 0 vs h
 
 next_term_pays : (vs : Values) → Fine vs → Pays 0 vs (next_term vs)
 next_term_pays (term t at ∷ whole p ∷ vs) h = (omega arith, (tt, h.1.1))
-next_term_pays vs h = (omega arith, h)
+next_term_pays vs h = same 0 vs h
 
 clauses_term_pays : (vs : Values) → Fine vs → Pays 0 vs (clauses_term vs)
 clauses_term_pays (clauses cs ∷ tok x ∷ vs) h = (omega arith, (tt, h.1.1))
-clauses_term_pays vs h = (omega arith, h)
+clauses_term_pays vs h = same 0 vs h
 
 named_term_pays : (vs : Values) → Fine vs → Pays 0 vs (named_term vs)
 named_term_pays (tok x ∷ vs) h = (omega arith, (tt, h.1))
-named_term_pays vs h = (omega arith, h)
+named_term_pays vs h = same 0 vs h
 
 bottom_term_pays : (vs : Values) → Fine vs → Pays 0 vs (bottom_term vs)
 bottom_term_pays (tok x ∷ vs) h = (omega arith, (tt, h.1))
-bottom_term_pays vs h = (omega arith, h)
+bottom_term_pays vs h = same 0 vs h
 
 top_term_pays : (vs : Values) → Fine vs → Pays 0 vs (top_term vs)
 top_term_pays (tok x ∷ vs) h = (omega arith, (tt, h.1))
-top_term_pays vs h = (omega arith, h)
+top_term_pays vs h = same 0 vs h
 
 one_clause_pays : (vs : Values) → Fine vs → Pays 0 vs (one_clause vs)
 one_clause_pays (needs ls ∷ tok x ∷ vs) h = (omega arith, (tt, h.1.1))
-one_clause_pays vs h = (omega arith, h)
+one_clause_pays vs h = same 0 vs h
 
 next_clause_pays : (vs : Values) → Fine vs → Pays 0 vs (next_clause vs)
 next_clause_pays (clause c ∷ clauses cs ∷ vs) h = (omega arith, (tt, h.1.1))
-next_clause_pays vs h = (omega arith, h)
+next_clause_pays vs h = same 0 vs h
 
 one_lock_pays : (vs : Values) → Fine vs → Pays 0 vs (one_lock vs)
 one_lock_pays (idents ids ∷ tok x ∷ vs) h = (omega arith, (tt, h.1.1))
-one_lock_pays vs h = (omega arith, h)
+one_lock_pays vs h = same 0 vs h
 
 next_lock_pays : (vs : Values) → Fine vs → Pays 0 vs (next_lock vs)
 next_lock_pays (lock l ∷ needs ls ∷ vs) h = (omega arith, (tt, h.1.1))
-next_lock_pays vs h = (omega arith, h)
+next_lock_pays vs h = same 0 vs h
 
 next_stmt_pays : (vs : Values) → Fine vs → Pays 0 vs (next_stmt vs)
 next_stmt_pays (sta s ∷ stas ss ∷ vs) h = (omega arith, (tt, h.1.1))
-next_stmt_pays vs h = (omega arith, h)
+next_stmt_pays vs h = same 0 vs h
 
 block_stmt_pays : (vs : Values) → Fine vs → Pays 0 vs (block_stmt vs)
 block_stmt_pays (braces b ∷ vs) h = (omega arith, (tt, h.1))
-block_stmt_pays vs h = (omega arith, h)
+block_stmt_pays vs h = same 0 vs h
 
 if_stmt_pays : (vs : Values) → Fine vs → Pays 0 vs (if_stmt vs)
 if_stmt_pays (other o ∷ braces b ∷ exp e ∷ tok x ∷ vs) h = (omega arith, (tt, h.1.1.1.1))
-if_stmt_pays vs h = (omega arith, h)
+if_stmt_pays vs h = same 0 vs h
 
 some_else_pays : (vs : Values) → Fine vs → Pays 0 vs (some_else vs)
 some_else_pays (sta s ∷ vs) h = (omega arith, (tt, h.1))
-some_else_pays vs h = (omega arith, h)
+some_else_pays vs h = same 0 vs h
 
 while_stmt_pays : (vs : Values) → Fine vs → Pays 0 vs (while_stmt vs)
 while_stmt_pays (braces b ∷ exp e ∷ tok x ∷ vs) h = (omega arith, (tt, h.1.1.1))
-while_stmt_pays vs h = (omega arith, h)
+while_stmt_pays vs h = same 0 vs h
 
 one_catch_pays : (vs : Values) → Fine vs → Pays 0 vs (one_catch vs)
 one_catch_pays (braces b ∷ tok y ∷ tok x ∷ vs) h = (omega arith, (tt, h.1.1.1))
-one_catch_pays vs h = (omega arith, h)
+one_catch_pays vs h = same 0 vs h
 
 next_catch_pays : (vs : Values) → Fine vs → Pays 0 vs (next_catch vs)
 next_catch_pays (handler c ∷ catches cs ∷ vs) h = (omega arith, (tt, h.1.1))
-next_catch_pays vs h = (omega arith, h)
+next_catch_pays vs h = same 0 vs h
 
 try_stmt_pays : (vs : Values) → Fine vs → Pays 0 vs (try_stmt vs)
 try_stmt_pays (catches cs ∷ braces b ∷ tok x ∷ vs) h = (omega arith, (tt, h.1.1.1))
-try_stmt_pays vs h = (omega arith, h)
+try_stmt_pays vs h = same 0 vs h
 
 some_value_pays : (vs : Values) → Fine vs → Pays 0 vs (some_value vs)
 some_value_pays (exp e ∷ vs) h = (omega arith, (tt, h.1))
-some_value_pays vs h = (omega arith, h)
+some_value_pays vs h = same 0 vs h
 
 return_stmt_pays : (vs : Values) → Fine vs → Pays 0 vs (return_stmt vs)
 return_stmt_pays (may e ∷ tok x ∷ vs) h = (omega arith, (tt, h.1.1))
-return_stmt_pays vs h = (omega arith, h)
+return_stmt_pays vs h = same 0 vs h
 
 break_stmt_pays : (vs : Values) → Fine vs → Pays 0 vs (break_stmt vs)
 break_stmt_pays (tok x ∷ vs) h = (omega arith, (tt, h.1))
-break_stmt_pays vs h = (omega arith, h)
+break_stmt_pays vs h = same 0 vs h
 
 continue_stmt_pays : (vs : Values) → Fine vs → Pays 0 vs (continue_stmt vs)
 continue_stmt_pays (tok x ∷ vs) h = (omega arith, (tt, h.1))
-continue_stmt_pays vs h = (omega arith, h)
+continue_stmt_pays vs h = same 0 vs h
 
 throw_stmt_pays : (vs : Values) → Fine vs → Pays 0 vs (throw_stmt vs)
 throw_stmt_pays (tok y ∷ tok x ∷ vs) h = (omega arith, (tt, h.1.1))
-throw_stmt_pays vs h = (omega arith, h)
+throw_stmt_pays vs h = same 0 vs h
 
 open_stmt_pays : (vs : Values) → Fine vs → Pays 0 vs (open_stmt vs)
 open_stmt_pays (lock l ∷ tok x ∷ vs) h = (omega arith, (tt, h.1.1))
-open_stmt_pays vs h = (omega arith, h)
+open_stmt_pays vs h = same 0 vs h
 
 close_stmt_pays : (vs : Values) → Fine vs → Pays 0 vs (close_stmt vs)
 close_stmt_pays (lock l ∷ tok x ∷ vs) h = (omega arith, (tt, h.1.1))
-close_stmt_pays vs h = (omega arith, h)
+close_stmt_pays vs h = same 0 vs h
 
 when_stmt_pays : (vs : Values) → Fine vs → Pays 0 vs (when_stmt vs)
 when_stmt_pays (may_braces o ∷ braces b ∷ lock l ∷ tok x ∷ vs) h = (omega arith, (tt, h.1.1.1.1))
-when_stmt_pays vs h = (omega arith, h)
+when_stmt_pays vs h = same 0 vs h
 
 some_block_pays : (vs : Values) → Fine vs → Pays 0 vs (some_block vs)
 some_block_pays (braces b ∷ vs) h = (omega arith, (tt, h.1))
-some_block_pays vs h = (omega arith, h)
+some_block_pays vs h = same 0 vs h
 
 local_stmt_pays : (vs : Values) → Fine vs → Pays 0 vs (local_stmt vs)
 local_stmt_pays (exp e ∷ tok x ∷ typed t ∷ flag n ∷ may_whole p ∷ vs) h =
     (omega arith, (tt, h.1.1.1.1.1))
-local_stmt_pays vs h = (omega arith, h)
+local_stmt_pays vs h = same 0 vs h
 
 class_local_pays : (vs : Values) → Fine vs → Pays 0 vs (class_local vs)
 class_local_pays (exp e ∷ tok y ∷ tok x ∷ vs) h = (omega arith, (tt, h.1.1.1))
-class_local_pays vs h = (omega arith, h)
+class_local_pays vs h = same 0 vs h
 
 assign_stmt_pays : (vs : Values) → Fine vs → Pays 0 vs (assign_stmt vs)
 assign_stmt_pays (exp e ∷ tok x ∷ exp target ∷ vs) h = (omega arith, (tt, h.1.1.1))
-assign_stmt_pays vs h = (omega arith, h)
+assign_stmt_pays vs h = same 0 vs h
 
 call_stmt_pays : (vs : Values) → Fine vs → Pays 0 vs (call_stmt vs)
 call_stmt_pays (tok x ∷ exp e ∷ vs) h = (omega arith, (tt, h.1.1))
-call_stmt_pays vs h = (omega arith, h)
+call_stmt_pays vs h = same 0 vs h
 
 constant_pays : (vs : Values) → Fine vs → Pays 0 vs (constant vs)
 constant_pays (tok x ∷ vs) h = (omega arith, (tt, h.1))
-constant_pays vs h = (omega arith, h)
+constant_pays vs h = same 0 vs h
 
 true_expr_pays : (vs : Values) → Fine vs → Pays 0 vs (true_expr vs)
 true_expr_pays (tok x ∷ vs) h = (omega arith, (tt, h.1))
-true_expr_pays vs h = (omega arith, h)
+true_expr_pays vs h = same 0 vs h
 
 false_expr_pays : (vs : Values) → Fine vs → Pays 0 vs (false_expr vs)
 false_expr_pays (tok x ∷ vs) h = (omega arith, (tt, h.1))
-false_expr_pays vs h = (omega arith, h)
+false_expr_pays vs h = same 0 vs h
 
 null_expr_pays : (vs : Values) → Fine vs → Pays 0 vs (null_expr vs)
 null_expr_pays (tok x ∷ vs) h = (omega arith, (tt, h.1))
-null_expr_pays vs h = (omega arith, h)
+null_expr_pays vs h = same 0 vs h
 
 this_expr_pays : (vs : Values) → Fine vs → Pays 0 vs (this_expr vs)
 this_expr_pays (tok x ∷ vs) h = (omega arith, (tt, h.1))
-this_expr_pays vs h = (omega arith, h)
+this_expr_pays vs h = same 0 vs h
 
 create_pays : (vs : Values) → Fine vs → Pays 0 vs (create vs)
 create_pays (tok y ∷ tok x ∷ vs) h = (omega arith, (tt, h.1.1))
-create_pays vs h = (omega arith, h)
+create_pays vs h = same 0 vs h
 
 variable_pays : (vs : Values) → Fine vs → Pays 0 vs (variable vs)
 variable_pays (tok x ∷ vs) h = (omega arith, (tt, h.1))
-variable_pays vs h = (omega arith, h)
+variable_pays vs h = same 0 vs h
 
 select_pays : (vs : Values) → Fine vs → Pays 0 vs (select vs)
 select_pays (tok x ∷ exp e ∷ vs) h = (omega arith, (tt, h.1.1))
-select_pays vs h = (omega arith, h)
+select_pays vs h = same 0 vs h
 
 call_own_pays : (vs : Values) → Fine vs → Pays 0 vs (call_own vs)
 call_own_pays (exps es ∷ tok x ∷ vs) h = (omega arith, (tt, h.1.1))
-call_own_pays vs h = (omega arith, h)
+call_own_pays vs h = same 0 vs h
 
 call_on_pays : (vs : Values) → Fine vs → Pays 0 vs (call_on vs)
 call_on_pays (exps es ∷ tok x ∷ exp e ∷ vs) h = (omega arith, (tt, h.1.1.1))
-call_on_pays vs h = (omega arith, h)
+call_on_pays vs h = same 0 vs h
 
 negate_pays : (vs : Values) → Fine vs → Pays 0 vs (negate vs)
 negate_pays (exp e ∷ tok x ∷ vs) h = (omega arith, (tt, h.1.1))
-negate_pays vs h = (omega arith, h)
+negate_pays vs h = same 0 vs h
 
 invert_pays : (vs : Values) → Fine vs → Pays 0 vs (invert vs)
 invert_pays (exp e ∷ tok x ∷ vs) h = (omega arith, (tt, h.1.1))
-invert_pays vs h = (omega arith, h)
+invert_pays vs h = same 0 vs h
 
 binary_pays : (op : BinOp) (vs : Values) → Fine vs → Pays 0 vs (binary op vs)
 binary_pays op (exp b ∷ tok x ∷ exp a ∷ vs) h = (omega arith, (tt, h.1.1.1))
-binary_pays op vs h = (omega arith, h)
+binary_pays op vs h = same 0 vs h
 
 next_arg_pays : (vs : Values) → Fine vs → Pays 0 vs (next_arg vs)
 next_arg_pays (exp e ∷ exps es ∷ vs) h = (omega arith, (tt, h.1.1))
-next_arg_pays vs h = (omega arith, h)
+next_arg_pays vs h = same 0 vs h
 
 -- ---- all builders
 
