@@ -1,7 +1,7 @@
 use crate::fit::Fit;
 
 /// What a method does when it is called, by numbers.
-#[derive(Clone, Copy, Debug, PartialEq, Eq)]
+#[derive(Clone, Copy, PartialEq, Eq)]
 pub enum Target {
     /// It takes the next number of the line at this place, where its channel has a line.
     Input(Option<usize>),

@@ -16,7 +16,7 @@ use par_stack::Stack;
 use par_values::value::MVal;
 
 /// What a method gives.
-#[derive(Clone, Copy, Debug, PartialEq, Eq)]
+#[derive(Clone, Copy, PartialEq, Eq)]
 pub enum Gives {
     Nothing,
     Number,

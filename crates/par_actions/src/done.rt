@@ -1,7 +1,7 @@
 use par_values::value::MVal;
 
 /// What an instruction came to.
-#[derive(Clone, Copy, Debug, PartialEq, Eq)]
+#[derive(Clone, Copy)]
 pub enum Done {
     /// It goes on behind itself.
     Goes,

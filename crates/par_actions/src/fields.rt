@@ -16,7 +16,7 @@ use par_stack::Stack;
 use par_values::value::MVal;
 
 /// A field, by numbers.
-#[derive(Clone, Copy, Debug, PartialEq, Eq)]
+#[derive(Clone, Copy, PartialEq, Eq)]
 pub struct Field {
     pub is_static: bool,
     pub fit: Fit,

@@ -4,7 +4,7 @@ ghost use Rattle.par_actions.specs.Fits.{accepts};
 use par_values::value::MVal;
 
 /// Which values a place takes, by numbers.
-#[derive(Clone, Copy, Debug, PartialEq, Eq)]
+#[derive(Clone, Copy, PartialEq, Eq)]
 pub enum Fit {
     Number,
     /// Null, or an object of the class of this number.

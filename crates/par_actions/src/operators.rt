@@ -19,7 +19,7 @@ use par_stack::Stack;
 use par_values::value::MVal;
 
 /// What is made of two numbers.
-#[derive(Clone, Copy, Debug, PartialEq, Eq)]
+#[derive(Clone, Copy, PartialEq, Eq)]
 pub enum Operator {
     Plus,
     Minus,

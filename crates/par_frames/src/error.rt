@@ -11,7 +11,7 @@ pub enum KindName {
 }
 
 /// Why a class file has no frames.
-#[derive(Clone, Copy, Debug, PartialEq, Eq)]
+#[derive(Clone, Copy)]
 pub enum FrameError {
     /// A method, by its place in the table, whose attributes give none.
     Broken { number: u16, method: u32 },

@@ -1,5 +1,5 @@
 /// A class that every program has.
-#[derive(Clone, Copy, Debug, PartialEq, Eq)]
+#[derive(Clone, Copy, PartialEq, Eq)]
 pub enum Builtin {
     /// `java/lang/Object`.
     Object,
@@ -15,14 +15,14 @@ pub enum Builtin {
 
 /// A field or a method: the place of its file in the list, and its own place in the table of fields
 /// or of methods there.
-#[derive(Clone, Copy, Debug, PartialEq, Eq)]
+#[derive(Clone, Copy, PartialEq, Eq)]
 pub struct Declared {
     pub class: u16,
     pub place: u16,
 }
 
 /// What an entry of a constant pool names.
-#[derive(Clone, Copy, Debug, PartialEq, Eq)]
+#[derive(Clone, Copy, PartialEq, Eq)]
 pub enum Named {
     /// The class of the file at this place of the list.
     Class(u16),

@@ -12,7 +12,7 @@ use par_step_laws::par_link::Linked;
 use par_values::value::MVal;
 
 /// Where an exception goes.
-#[derive(Clone, Copy, Debug, PartialEq, Eq)]
+#[derive(Clone, Copy, PartialEq, Eq)]
 pub struct Landing {
     /// How many frames are dropped.
     pub above: usize,
