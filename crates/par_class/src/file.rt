@@ -20,13 +20,25 @@ pub struct Catch {
 }
 
 /// A method's code (section 4.7.3).
-#[derive(Drop)]
 pub struct CodeAttr {
     pub max_stack: u16,
     pub max_locals: u16,
     pub code: List<u8>,
     pub catches: List<Catch>,
     pub attributes: List<Attribute>,
+}
+
+impl Drop for CodeAttr {
+    // In one place, for all that own one.
+    fn drop(self) {
+        let CodeAttr {
+            max_stack: _,
+            max_locals: _,
+            code: _,
+            catches: _,
+            attributes: _,
+        } = self;
+    }
 }
 
 /// A field (section 4.5).
@@ -40,7 +52,6 @@ pub struct FieldFile {
 
 /// A method (section 4.6). Its code stands apart from its other attributes; a native method has
 /// none.
-#[derive(Drop)]
 pub struct MethodFile {
     pub access: u16,
     pub name: u16,
@@ -49,8 +60,20 @@ pub struct MethodFile {
     pub attributes: List<Attribute>,
 }
 
+impl Drop for MethodFile {
+    // In one place, for all that own one.
+    fn drop(self) {
+        let MethodFile {
+            access: _,
+            name: _,
+            descriptor: _,
+            code: _,
+            attributes: _,
+        } = self;
+    }
+}
+
 /// A class file (section 4.1).
-#[derive(Drop)]
 pub struct ClassFile {
     pub minor: u16,
     pub major: u16,
@@ -61,6 +84,23 @@ pub struct ClassFile {
     pub fields: List<FieldFile>,
     pub methods: List<MethodFile>,
     pub attributes: List<Attribute>,
+}
+
+impl Drop for ClassFile {
+    // In one place, for all that own one.
+    fn drop(self) {
+        let ClassFile {
+            minor: _,
+            major: _,
+            pool: _,
+            access: _,
+            this_class: _,
+            super_class: _,
+            fields: _,
+            methods: _,
+            attributes: _,
+        } = self;
+    }
 }
 
 /// An attribute of a method, in the order of the file.

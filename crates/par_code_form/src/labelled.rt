@@ -33,7 +33,6 @@ pub struct LabelFrame {
 
 /// The code of a method. Handlers of an inner `try` come before those of an outer one, and frames
 /// stand in the order of their labels in the items.
-#[derive(Drop)]
 pub struct Labelled {
     pub items: List<Item>,
     pub handlers: List<Handler>,
@@ -42,4 +41,18 @@ pub struct Labelled {
     /// The receiver and the arguments.
     pub start: List<Slot>,
     pub frames: List<LabelFrame>,
+}
+
+impl Drop for Labelled {
+    // In one place, for all that own one.
+    fn drop(self) {
+        let Labelled {
+            items: _,
+            handlers: _,
+            max_stack: _,
+            max_locals: _,
+            start: _,
+            frames: _,
+        } = self;
+    }
 }

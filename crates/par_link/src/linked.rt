@@ -11,11 +11,21 @@ use std::marker::Model;
 
 /// Class files that break no rule of linking, in their order. Contracts see them as the list of
 /// the files.
-#[derive(Drop)]
 pub struct Linked {
     pub(crate) files: List<ClassFile>,
     pub(crate) names: List<List<Named>>,
     pub(crate) channels: Channels,
+}
+
+impl Drop for Linked {
+    // In one place, for all that own one.
+    fn drop(self) {
+        let Linked {
+            files: _,
+            names: _,
+            channels: _,
+        } = self;
+    }
 }
 
 impl Model for Linked {

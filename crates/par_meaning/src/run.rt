@@ -10,8 +10,17 @@ pub struct SourceEvent {
 }
 
 /// The run of a program: its events in their order, and how it ends.
-#[derive(Drop)]
 pub struct SourceRun {
     pub events: List<SourceEvent>,
     pub ending: Ending,
+}
+
+impl Drop for SourceRun {
+    // In one place, for all that own one.
+    fn drop(self) {
+        let SourceRun {
+            events: _,
+            ending: _,
+        } = self;
+    }
 }
