@@ -8,7 +8,7 @@ ghost use Rattle.par_pool.specs.declared.constant.Constant.{Constant as Entry};
 ghost use Rattle.par_pool.specs.declared.error.ClassError.TheVariants.{Cut};
 ghost use Rattle.par_pool.specs.Spelling.{IsPoolAt};
 ghost use Rattle.par_pool.specs.Reading.{Gives, both, items, u2_at};
-ghost use Rattle.par_pool.specs.Constants.{text_at, integer_at, constant_at, pool_at};
+ghost use Rattle.par_pool.specs.Constants.{text_at, integer_at, behind_tag, constant_at, pool_at};
 ghost use Rattle.par_pool.specs.Constants as constants;
 
 use crate::constant::{Constant, Pool};
@@ -64,7 +64,45 @@ fn two(short: ClassError, bytes: &[u8]) -> Result<((u16, u16), &[u8]), ClassErro
     Ok(((first, second), rest))
 }
 
-#[tactic(auto, unfolding(crate::specs::Constants::one_at, crate::specs::Constants::two_at, crate::specs::Constants::constant_at))]
+/// The constant that stands behind a tag.
+#[tactic(auto, unfolding(crate::specs::Constants::one_at, crate::specs::Constants::two_at))]
+fn behind_tag(
+    alloc: Global,
+    short: ClassError,
+    index: u16,
+    tag: u8,
+    bytes: &[u8],
+) -> Result<(Constant, &[u8]), ClassError>
+    ensures { Gives (λ x. (x.0, x.1.now)) result (behind_tag short index tag bytes.now) }
+{
+    match tag {
+        1 => text_of(alloc, short, index, bytes),
+        3 => integer_of(short, bytes),
+        7 => {
+            let (name, rest) = u2(short, bytes)?;
+            Ok((Constant::Class(name), rest))
+        }
+        8 => {
+            let (text, rest) = u2(short, bytes)?;
+            Ok((Constant::Text(text), rest))
+        }
+        9 => {
+            let ((class, member), rest) = two(short, bytes)?;
+            Ok((Constant::Field(class, member), rest))
+        }
+        10 => {
+            let ((class, member), rest) = two(short, bytes)?;
+            Ok((Constant::Method(class, member), rest))
+        }
+        12 => {
+            let ((name, descriptor), rest) = two(short, bytes)?;
+            Ok((Constant::NameType(name, descriptor), rest))
+        }
+        _ => Err(ClassError::Pool(index)),
+    }
+}
+
+#[tactic(auto, unfolding(crate::specs::Constants::constant_at))]
 fn constant_of(
     alloc: Global,
     short: ClassError,
@@ -74,31 +112,7 @@ fn constant_of(
     ensures { Gives (λ x. (x.0, x.1.now)) result (constant_at short index bytes.now) }
 {
     let (tag, rest) = u1(short, bytes)?;
-    match tag {
-        1 => text_of(alloc, short, index, rest),
-        3 => integer_of(short, rest),
-        7 => {
-            let (name, rest) = u2(short, rest)?;
-            Ok((Constant::Class(name), rest))
-        }
-        8 => {
-            let (text, rest) = u2(short, rest)?;
-            Ok((Constant::Text(text), rest))
-        }
-        9 => {
-            let ((class, member), rest) = two(short, rest)?;
-            Ok((Constant::Field(class, member), rest))
-        }
-        10 => {
-            let ((class, member), rest) = two(short, rest)?;
-            Ok((Constant::Method(class, member), rest))
-        }
-        12 => {
-            let ((name, descriptor), rest) = two(short, rest)?;
-            Ok((Constant::NameType(name, descriptor), rest))
-        }
-        _ => Err(ClassError::Pool(index)),
-    }
+    behind_tag(alloc, short, index, tag, rest)
 }
 
 /// The constants behind their number, which is one more than there are.
