@@ -60,22 +60,44 @@ fn method_keys(alloc: Global, texts: &Texts, file: &ClassFile) -> Result<Vec<Key
     Ok(keys)
 }
 
+/// The table of the fields of a file whose constant pool has these texts.
+fn field_table(alloc: Global, texts: &Texts, file: &ClassFile) -> Result<Keys, NoMemory>
+    requires { texts.now.entries.now ≡ file.now.pool.entries }
+    ensures { IfOk result
+        (λ table. table.keys.items ≡ keys_of texts.now.files.now (fields_of file.now)) }
+{
+    let keys = field_keys(alloc, texts, file)?;
+    let table = Keys::of(alloc, keys)?;
+    Ok(table)
+}
+
+/// The table of the methods of a file whose constant pool has these texts.
+fn method_table(alloc: Global, texts: &Texts, file: &ClassFile) -> Result<Keys, NoMemory>
+    requires { texts.now.entries.now ≡ file.now.pool.entries }
+    ensures { IfOk result
+        (λ table. table.keys.items ≡ keys_of texts.now.files.now (methods_of file.now)) }
+{
+    let keys = method_keys(alloc, texts, file)?;
+    let table = Keys::of(alloc, keys)?;
+    Ok(table)
+}
+
 impl<'f> Members<'f> {
     /// The members of one of the files that have these texts.
     pub(crate) fn of(
         alloc: Global,
-        index: &TextIndex<'f>,
+        index: &TextIndex<'_, 'f>,
         file: &'f ClassFile,
     ) -> Result<Members<'f>, NoMemory>
         requires small { IsSmall file.now }
-        requires among { AreAmong index.now.classes.files.now file.now }
+        requires among { AreAmong index.now.classes.now.files.now file.now }
         ensures file { IfOk result (λ members. members.file.now ≡ file.entry.now) }
         ensures files { IfOk result
-            (λ members. members.texts.files.now ≡ index.now.classes.files.now) }
+            (λ members. members.texts.files.now ≡ index.now.classes.now.files.now) }
     {
         let texts = Texts::of(alloc, index, file.pool.entries.as_slice())?;
-        let fields = Keys::of(alloc, field_keys(alloc, &texts, file)?)?;
-        let methods = Keys::of(alloc, method_keys(alloc, &texts, file)?)?;
+        let fields = field_table(alloc, &texts, file)?;
+        let methods = method_table(alloc, &texts, file)?;
         Ok(Members {
             file,
             texts,

@@ -35,18 +35,33 @@ pub struct Tables<'f> {
 }
 
 /// The members of each of the files that have these texts.
-fn all_members<'f>(alloc: Global, index: &TextIndex<'f>) -> Result<Vec<Members<'f>>, NoMemory>
-    requires small { All IsSmall index.now.classes.files.now }
+fn all_members<'f>(alloc: Global, index: &TextIndex<'_, 'f>) -> Result<Vec<Members<'f>>, NoMemory>
+    requires small { All IsSmall index.now.classes.now.files.now }
     ensures each { IfOk result
-        (λ all. map (λ m. m.file.now) all.items ≡ index.now.classes.files.now) }
+        (λ all. map (λ m. m.file.now) all.items ≡ index.now.classes.now.files.now) }
     ensures among { IfOk result
-        (λ all. All (λ m. m.texts.files.now ≡ index.now.classes.files.now) all.items) }
+        (λ all. All (λ m. m.texts.files.now ≡ index.now.classes.now.files.now) all.items) }
 {
     let mut all = Vec::new(alloc);
     for file in index.classes.files {
         all.push(Members::of(alloc, index, file)?)?;
     }
     Ok(all)
+}
+
+/// The members of each of the files that have these classes. Their texts are looked up here alone.
+fn looked_up<'f>(alloc: Global, classes: &Classes<'f>) -> Result<Vec<Members<'f>>, NoMemory>
+    requires few { length classes.now.files.now < 2 ^ 16 }
+    requires small { All IsSmall classes.now.files.now }
+    ensures each { IfOk result
+        (λ all. map (λ m. m.file.now) all.items ≡ classes.now.files.now) }
+    ensures among { IfOk result
+        (λ all. All (λ m. m.texts.files.now ≡ classes.now.files.now) all.items) }
+{
+    let index = TextIndex::of(alloc, classes)?;
+    let all = all_members(alloc, &index);
+    drop(index);
+    all
 }
 
 impl<'f> Tables<'f> {
@@ -56,10 +71,8 @@ impl<'f> Tables<'f> {
         requires small { All IsSmall files.now }
         ensures { IfOk result (λ tables. tables.files.now ≡ files.entry.now) }
     {
-        let index = TextIndex::of(alloc, files)?;
-        let members = all_members(alloc, &index)?;
-        // The texts are looked up no more.
-        let TextIndex { classes, .. } = index;
+        let classes = Classes::of(alloc, files)?;
+        let members = looked_up(alloc, &classes)?;
         Ok(Tables {
             files,
             classes,

@@ -28,13 +28,13 @@ use std::alloc::Global;
 /// The texts of the constant pools of some files, each by the first place that has it, and the
 /// classes of the files.
 #[derive(Drop)]
-pub(crate) struct TextIndex<'f> {
-    pub(crate) classes: Classes<'f>,
+pub(crate) struct TextIndex<'c, 'f> {
+    pub(crate) classes: &'c Classes<'f>,
     count: usize,
     firsts: Firsts<&'f [u8]>,
-    ghost many: { count ≡ length (all_texts classes.files.now) },
+    ghost many: { count ≡ length (all_texts classes.now.files.now) },
     ghost few: { count < 2 ^ 32 },
-    ghost placed: { ArePlaced (all_texts classes.files.now) firsts },
+    ghost placed: { ArePlaced (all_texts classes.now.files.now) firsts },
 }
 
 /// What is known of a text.
@@ -111,15 +111,15 @@ fn all_texts(alloc: Global, files: &[ClassFile]) -> Result<Vec<&[u8]>, NoMemory>
     Ok(all)
 }
 
-impl<'f> TextIndex<'f> {
-    /// The texts of some files.
-    pub(crate) fn of(alloc: Global, files: &'f [ClassFile]) -> Result<TextIndex<'f>, NoMemory>
-        requires few { length files.now < 2 ^ 16 }
-        requires small { All IsSmall files.now }
-        ensures { IfOk result (λ index. index.classes.files.now ≡ files.entry.now) }
+impl<'c, 'f> TextIndex<'c, 'f> {
+    /// The texts of the files that have these classes.
+    pub(crate) fn of(alloc: Global, classes: &'c Classes<'f>) -> Result<TextIndex<'c, 'f>, NoMemory>
+        requires few { length classes.now.files.now < 2 ^ 16 }
+        requires small { All IsSmall classes.now.files.now }
+        ensures { IfOk result
+            (λ index. index.classes.now.files.now ≡ classes.entry.now.files.now) }
     {
-        let classes = Classes::of(alloc, files)?;
-        let texts = all_texts(alloc, files)?;
+        let texts = all_texts(alloc, classes.files)?;
         let firsts = Firsts::of(alloc, texts.as_slice())?;
         Ok(TextIndex {
             classes,
@@ -130,14 +130,14 @@ impl<'f> TextIndex<'f> {
 
     /// The number of a text.
     fn number(&self, text: &[u8]) -> u32
-        ensures { result ≡ number_of (all_texts self.now.classes.files.now) text.now }
+        ensures { result ≡ number_of (all_texts self.now.classes.now.files.now) text.now }
     {
         self.firsts.place(&text).unwrap_or(self.count) as u32
     }
 
     /// What is known of a text.
     fn facts_of(&self, text: &[u8]) -> TextFacts
-        ensures { result ≡ facts_of self.now.classes.files.now text.now }
+        ensures { result ≡ facts_of self.now.classes.now.files.now text.now }
     {
         TextFacts {
             number: self.number(text),
@@ -149,7 +149,7 @@ impl<'f> TextIndex<'f> {
     /// What is known of the text of each index of a constant pool.
     fn all_facts(&self, alloc: Global, entries: &[Constant]) -> Result<List<TextFacts>, NoMemory>
         ensures { IfOk result
-            (λ all. all ≡ map (facts_of self.now.classes.files.now) (pool_texts entries.now)) }
+            (λ all. all ≡ map (facts_of self.now.classes.now.files.now) (pool_texts entries.now)) }
     {
         let mut all = List::new(alloc);
         all.push(self.facts_of(&[]))?;
@@ -164,10 +164,10 @@ impl<'f> Texts<'f> {
     /// What is known of the texts of a constant pool.
     pub(crate) fn of(
         alloc: Global,
-        index: &TextIndex<'f>,
+        index: &TextIndex<'_, 'f>,
         entries: &'f [Constant],
     ) -> Result<Texts<'f>, NoMemory>
-        ensures files { IfOk result (λ texts. texts.files.now ≡ index.now.classes.files.now) }
+        ensures files { IfOk result (λ texts. texts.files.now ≡ index.now.classes.now.files.now) }
         ensures entries { IfOk result (λ texts. texts.entries.now ≡ entries.entry.now) }
     {
         let facts = index.all_facts(alloc, entries)?;

@@ -12,7 +12,7 @@ use Rattle.par_references.proofs.tables.all_members.Goals as goal
 
 pub of-requires-clause-among : goal.of-requires-clause-among
 of-requires-clause-among c =
-    let files = c.args.index.now.classes.files.now in
+    let files = c.args.index.now.classes.now.files.now in
     let i = c.loop-file.file-index in
     let x = c.file-item.result in
     are-among files i x
@@ -20,7 +20,7 @@ of-requires-clause-among c =
 
 pub loop-file-preserved : goal.loop-file-preserved
 loop-file-preserved c =
-    let files = c.args.index.now.classes.files.now in
+    let files = c.args.index.now.classes.now.files.now in
     let i = c.loop-file.file-index in
     let x = c.file-item.result in
     let all = c.loop-file.all.items in

@@ -4,5 +4,5 @@ use Rattle.par_references.proofs.texts.TextIndex.all_facts.Given as goal
 
 abbrev pub invariant-loop-constant : goal.invariant-loop-constant
 invariant-loop-constant l =
-    l.all ≡ map (facts_of l.self.classes.files.now)
+    l.all ≡ map (facts_of l.self.classes.now.files.now)
     (pool_texts (take l.constant-index l.entries))

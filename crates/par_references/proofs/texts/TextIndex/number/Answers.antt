@@ -9,7 +9,7 @@ use Rattle.par_references.proofs.texts.TextIndex.number.Goals as goal
 pub overflow_cast-result : goal.overflow_cast-result
 overflow_cast-result c =
     let s = c.args.self.now in
-    let all = all_texts s.classes.files.now in
+    let all = all_texts s.classes.now.files.now in
     let is : c.unwrap_or.result ≡ number_of all c.args.text.now =
     c.unwrap_or.ensures
     ∙ ap (λ o. unwrap_or o s.count) (c.place.ensures ∙ s.placed.places c.args.text)

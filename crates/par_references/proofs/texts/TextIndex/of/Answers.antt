@@ -1,7 +1,6 @@
-use Rattle.std.proofs.Common.{◌≡◌, List, length, sym, ap, ◌∙◌, arith}
+use Rattle.std.proofs.Common.{◌≡◌, length, ap, ◌∙◌, arith}
 use Rattle.std.specs.Borrow.{Bor}
 use Rattle.std.proofs.lemmas.List.{length-map}
-use Rattle.par_single.specs.par_class.declared.file.ClassFile.{ClassFile}
 use Rattle.par_index.specs.Texts.{texts}
 use Rattle.par_single.specs.Descriptors.{Text}
 use Rattle.par_references.proofs.Counted.{texts-few}
@@ -11,19 +10,16 @@ use Rattle.par_references.proofs.texts.TextIndex.of.Goals as goal
 
 pub invariant_of-result : goal.invariant_of-result
 invariant_of-result c =
-    let files = c.args.files.now in
+    let files = c.args.classes.now.files.now in
     let listed = c.in_ok-texts.texts.items in
-    let same = sym c.in_ok-classes.ensures in
-    let made : texts listed ≡ all_texts c.in_ok-classes.classes.files.now =
-    c.in_ok-texts.ensures ∙ ap all_texts same in
     let counted = length-map listed (λ (t : Bor Text). t.now) in
     let whole = ap length c.in_ok-texts.ensures in
     let many : c.len.result ≡ length (all_texts files) =
     omega (arith, c.len.ensures, c.in_ok-texts.texts.ok.0, counted, whole) in
     record {
-      many = many ∙ ap (λ (fs : List ClassFile). length (all_texts fs)) same;
+      many = many;
       few = omega (arith, many, texts-few files c.requires.few c.requires.small);
       placed =
-          placed c.as_slice.result.now (all_texts c.in_ok-classes.classes.files.now)
-          c.in_ok-firsts.firsts c.in_ok-firsts.ensures (ap texts c.as_slice.ensures.value ∙ made);
+          placed c.as_slice.result.now (all_texts files) c.in_ok-firsts.firsts
+          c.in_ok-firsts.ensures (ap texts c.as_slice.ensures.value ∙ c.in_ok-texts.ensures);
     }
