@@ -1,7 +1,7 @@
 //! Linking: each file is looked at by the rules, and what its constants name is kept.
 
 ghost use Rattle.std.specs.Prelude.{◌≡◌, ◌<◌, ◌^◌, ℕ, List as Items, length, map, None, IfOk, OnOk};
-ghost use Rattle.std.specs.Prelude.{IfErr};
+ghost use Rattle.std.specs.Prelude.{IfErr, ◌≤◌};
 ghost use Rattle.std.specs.List.{All};
 ghost use Rattle.par_index.specs.par_base.Names.{IsName};
 ghost use Rattle.par_single.specs.par_class.Spelling.{Spells};
@@ -78,6 +78,25 @@ fn linked_files(alloc: Global, tables: &Tables) -> Result<List<List<Named>>, Lin
     Ok(all)
 }
 
+/// What each constant of each file names, where no two files have one class and no file breaks a
+/// rule.
+fn linked_by(alloc: Global, tables: &Tables) -> Result<List<List<Named>>, LinkError>
+    requires { length tables.now.files.now ≤ MOST_FILES }
+    ensures names { IfOk result
+        (λ names. names ≡ map (names_of tables.now.files.now) tables.now.files.now) }
+    ensures unbroken { OnOk result (first_broken tables.now.files.now ≡ None) }
+    ensures broken { IfErr result (Tells (first_broken tables.now.files.now)) }
+{
+    match tables.repeated_class() {
+        None => linked_files(alloc, tables),
+        Some(class) => Err(LinkError::Broken {
+            number: TWICE,
+            class,
+            index: 0,
+        }),
+    }
+}
+
 /// What each constant of each file names, where neither the list nor a file breaks a rule.
 fn linked_list(alloc: Global, files: &[ClassFile]) -> Result<List<List<Named>>, LinkError>
     requires few { length files.now < 2 ^ 16 }
@@ -94,14 +113,9 @@ fn linked_list(alloc: Global, files: &[ClassFile]) -> Result<List<List<Named>>, 
         });
     }
     let tables = Tables::of(alloc, files)?;
-    match tables.repeated_class() {
-        None => linked_files(alloc, &tables),
-        Some(class) => Err(LinkError::Broken {
-            number: TWICE,
-            class,
-            index: 0,
-        }),
-    }
+    let names = linked_by(alloc, &tables);
+    drop(tables);
+    names
 }
 
 /// Links class files, in their order.
