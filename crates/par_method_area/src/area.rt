@@ -6,7 +6,7 @@ ghost use Rattle.par_step_laws.specs.Fields.{all_statics};
 ghost use Rattle.par_step_laws.specs.par_link.Linked.{AreLinked};
 ghost use Rattle.par_values.specs.Reasons.{Spot};
 ghost use Rattle.par_actions.specs.Leaving.{KnowsExceptions};
-ghost use Rattle.par_method_area.specs.Area.{KnowsLines};
+ghost use Rattle.par_method_area.specs.Area.{KnowsLines, AreTold};
 ghost use Rattle.par_actions.specs.par_lines.Lines.{channels_of};
 ghost use Rattle.par_method_area.specs.Classes.{IsClassRow, lines_in, line_rows};
 ghost use Rattle.par_method_area.specs.Known.{KnowsCode, code_at};
@@ -29,12 +29,23 @@ use std::marker::Model;
 
 /// Linked class files with what is told once of their classes, fields and methods. Contracts see
 /// the files, and for each method the place of the line of the channel of its name.
-#[derive(Drop)]
 pub struct MethodArea {
     pub(crate) linked: Linked,
     pub(crate) rows: List<ClassRow>,
     pub(crate) exceptions: List<bool>,
     pub(crate) statics: List<MVal>,
+}
+
+impl Drop for MethodArea {
+    // In one place, for all that own one.
+    fn drop(self) {
+        let MethodArea {
+            linked: _,
+            rows: _,
+            exceptions: _,
+            statics: _,
+        } = self;
+    }
 }
 
 impl Model for MethodArea {
@@ -48,6 +59,26 @@ impl Model for MethodArea {
         AreTold area.linked area.rows area.exceptions area.statics };
 }
 
+/// What is told once of each class of some files, whose numbers these are.
+fn rows_over(
+    alloc: Global,
+    numbers: &ClassNumbers,
+    linked: &Linked,
+    inputs: &Inputs,
+) -> Result<List<ClassRow>, NoMemory>
+    requires linked { AreLinked linked.now }
+    requires numbers { numbers.now ≡ class_names linked.now }
+    ensures rows { IfOk result (λ rows.
+        AreRows (IsClassRow (class_names linked.now) linked.now) linked.now rows) }
+    ensures lines { IfOk result (λ rows.
+        map lines_in rows ≡ line_rows linked.now (channels_of inputs.now.channels)) }
+{
+    let lines = ChannelLines::of(alloc, inputs.channels.as_slice())?;
+    let rows = class_rows(alloc, numbers, &lines, linked.files());
+    drop(lines);
+    rows
+}
+
 /// What is told once of each class of some files, where the input channels have these lines.
 fn told_rows(alloc: Global, linked: &Linked, inputs: &Inputs) -> Result<List<ClassRow>, NoMemory>
     requires { AreLinked linked.now }
@@ -57,8 +88,35 @@ fn told_rows(alloc: Global, linked: &Linked, inputs: &Inputs) -> Result<List<Cla
         map lines_in rows ≡ line_rows linked.now (channels_of inputs.now.channels)) }
 {
     let numbers = ClassNumbers::of(alloc, linked.files())?;
-    let lines = ChannelLines::of(alloc, inputs.channels.as_slice())?;
-    class_rows(alloc, &numbers, &lines, linked.files())
+    let rows = rows_over(alloc, &numbers, linked, inputs);
+    drop(numbers);
+    rows
+}
+
+/// What is told once of some files, and is kept with them.
+#[derive(Drop)]
+struct Told {
+    rows: List<ClassRow>,
+    exceptions: List<bool>,
+    statics: List<MVal>,
+}
+
+/// What is told once of some files, where the input channels have these lines.
+fn told_once(alloc: Global, linked: &Linked, inputs: &Inputs) -> Result<Told, NoMemory>
+    requires { AreLinked linked.now }
+    ensures told { IfOk result (λ told.
+        AreTold linked.now told.rows told.exceptions told.statics) }
+    ensures lines { IfOk result (λ told.
+        map lines_in told.rows ≡ line_rows linked.now (channels_of inputs.now.channels)) }
+{
+    let exceptions = exception_flags(alloc, linked.files())?;
+    let statics = all_statics(alloc, linked.files())?;
+    let rows = told_rows(alloc, linked, inputs)?;
+    Ok(Told {
+        rows,
+        exceptions,
+        statics,
+    })
 }
 
 impl MethodArea {
@@ -68,14 +126,12 @@ impl MethodArea {
         ensures lines { IfOk result (λ area. KnowsLines area (channels_of inputs.now.channels)) }
     {
         let _ = linked.count();
-        let rows = told_rows(alloc, &linked, inputs)?;
-        let exceptions = exception_flags(alloc, linked.files())?;
-        let statics = all_statics(alloc, linked.files())?;
+        let told = told_once(alloc, &linked, inputs)?;
         Ok(MethodArea {
             linked,
-            rows,
-            exceptions,
-            statics,
+            rows: told.rows,
+            exceptions: told.exceptions,
+            statics: told.statics,
         })
     }
 
