@@ -72,6 +72,22 @@ fn numbers(all: &[ChannelInput], place: usize) -> &[i32]
     }
 }
 
+/// What the channels of each class are given by these lines.
+fn each_row<'a>(
+    alloc: Global,
+    lines: &Lines<'a>,
+    classes: &'a [ClassInfo],
+) -> Result<List<List<&'a [i32]>>, NoMemory>
+    ensures { IfOk result (λ rows. rows_shown rows ≡ rows_of lines.now.all.now classes.now) }
+{
+    let mut rows = List::new(alloc);
+    for class in classes {
+        let row = lines.row(alloc, &class.name, class.channels.as_slice())?;
+        rows.push(row)?;
+    }
+    Ok(rows)
+}
+
 /// What the channels are given, by the numbers of the class and of the channel there.
 pub(crate) fn rows<'a>(
     alloc: Global,
@@ -81,11 +97,9 @@ pub(crate) fn rows<'a>(
     ensures { IfOk result (λ rows. rows_shown rows ≡ rows_of all.now classes.now) }
 {
     let lines = Lines::of(alloc, all)?;
-    let mut rows = List::new(alloc);
-    for class in classes {
-        rows.push(lines.row(alloc, &class.name, class.channels.as_slice())?)?;
-    }
-    Ok(rows)
+    let rows = each_row(alloc, &lines, classes);
+    drop(lines);
+    rows
 }
 
 /// What a channel is given by a row; nothing where there is no such channel.

@@ -1,6 +1,6 @@
 use Rattle.std.proofs.Common.{◌≡◌, take}
 use Rattle.par_source_state.specs.Lined.{rows_of, rows_shown}
-use Rattle.par_source_state.proofs.lines.rows.Given as goal
+use Rattle.par_source_state.proofs.lines.each_row.Given as goal
 
 abbrev pub invariant-loop-class : goal.invariant-loop-class
 invariant-loop-class l =
