@@ -1,6 +1,6 @@
 //! The run of a program.
 
-ghost use Rattle.std.specs.Prelude.{◌≡◌, ℕ, IfOk};
+ghost use Rattle.std.specs.Prelude.{◌≡◌, ℕ, [], IfOk};
 ghost use Rattle.par_run_laws.specs.Names.{class_named};
 ghost use Rattle.par_run_laws.specs.Source.{source, uncaught};
 ghost use Rattle.par_source_state.specs.Bodied.{main_body};
@@ -10,7 +10,7 @@ ghost use Rattle.par_meaning.specs.Whole.{Begins, IsNew, ended, ends, as_run};
 use crate::machine::Machine;
 use crate::run::SourceRun;
 use crate::steps::{Rest, settle, step};
-use crate::work::{Completion, Exit, FINE, Next, Then};
+use crate::work::{Completion, Exit, FINE, Next, Then, Waiting};
 use par_base::memory::NoMemory;
 use par_source_state::{Program, Stack, main_body, names};
 use par_typed::program::Typed;
@@ -29,9 +29,23 @@ pub fn run_source(
     ensures { IfOk result (λ run. as_run run ≡ source typed.now inputs.now bound) }
 {
     let program = Program::new(alloc, typed, inputs)?;
-    let mut machine = Machine::new(alloc);
-    let ending = run(&program, &mut machine, bound)?;
+    let run = run_program(&program, bound);
+    drop(program);
+    run
+}
+
+/// The run of a program that is looked up, with at most so many steps.
+fn run_program(program: &Program, bound: u64) -> Result<SourceRun, NoMemory>
+    ensures { IfOk result (λ run. as_run run
+        ≡ source program.now.typed.now program.now.inputs.now bound) }
+{
+    let mut machine = Machine::new(program.alloc);
+    let ended = run(program, &mut machine, bound);
     let events = machine.events;
+    drop(machine.store);
+    drop(machine.frames);
+    drop(machine.values);
+    let ending = ended?;
     Ok(SourceRun { events, ending })
 }
 
@@ -42,12 +56,29 @@ fn run<'a>(program: &Program<'a>, machine: &mut Machine<'a>, bound: u64) -> Resu
         ≡ source program.now.typed.now program.now.inputs.now bound) }
 {
     let mut work = Stack::new(program.alloc);
-    let mut rest = settle(program, machine, &mut work, begin(program))?;
+    let ending = go_through(program, machine, &mut work, bound);
+    drop(work);
+    ending
+}
+
+/// Runs the body of `main`, where nothing waits yet.
+fn go_through<'a>(
+    program: &Program<'a>,
+    machine: &mut Machine<'a>,
+    work: &mut Stack<Waiting<'a>>,
+    bound: u64,
+) -> Result<Ending, NoMemory>
+    requires new { IsNew machine.old }
+    requires waits { work.old ≡ [] }
+    ensures { IfOk result (λ ending. ended machine.new.events ending
+        ≡ source program.now.typed.now program.now.inputs.now bound) }
+{
+    let mut rest = settle(program, machine, work, begin(program))?;
     for _ in 0..bound {
         match rest {
             Rest::Next(next) => {
                 let then = step(program, machine, next)?;
-                rest = settle(program, machine, &mut work, then)?;
+                rest = settle(program, machine, work, then)?;
             }
             Rest::Over(completion) => return ending(program, completion),
         }

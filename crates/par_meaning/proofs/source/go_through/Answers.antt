@@ -3,16 +3,16 @@ use Rattle.par_meaning.specs.Onward.{setting}
 use Rattle.par_meaning.specs.Whole.{whole}
 use Rattle.par_meaning.proofs.Entered.{if_ok}
 use Rattle.par_meaning.proofs.Runs.{begun, over, stepped, stops}
-use Rattle.par_meaning.proofs.source.run.Goals as goal
+use Rattle.par_meaning.proofs.source.go_through.Goals as goal
 
 pub loop-init : goal.loop-init
 loop-init c =
     let p = setting c.args.program.now c.args.bound in
     let whole_bound : c.args.bound - 0 ≡ c.args.bound = omega arith in
     ap (whole p c.settle.new.work c.settle.new.machine c.in_ok-rest.rest) whole_bound
-    ∙ begun c.args.program.now c.args.bound c.new-work.result c.settle.new.work c.args.machine.now
+    ∙ begun c.args.program.now c.args.bound c.args.work.now c.settle.new.work c.args.machine.now
     c.settle.new.machine
-    c.begin.result c.in_ok-rest.rest c.new-work.ensures c.requires (c.begin.ensures c.args.bound)
+    c.begin.result c.in_ok-rest.rest c.requires.waits c.requires.new (c.begin.ensures c.args.bound)
     c.in_ok-rest.ensures
 
 pub loop-preserved : goal.loop-preserved

@@ -2,7 +2,7 @@ use Rattle.std.proofs.Common.{◌≡◌, ◌-◌}
 use Rattle.par_run_laws.specs.Source.{source}
 use Rattle.par_meaning.specs.Onward.{setting}
 use Rattle.par_meaning.specs.Whole.{whole}
-use Rattle.par_meaning.proofs.source.run.Given as goal
+use Rattle.par_meaning.proofs.source.go_through.Given as goal
 
 abbrev pub invariant-loop : goal.invariant-loop
 invariant-loop l =
