@@ -1,11 +1,12 @@
 //! All class files of a program.
 
 ghost use Rattle.std.specs.Prelude.{◌≡◌, ◌≤◌, ◌<◌, Option, Some, None, IfOk, OnOk, IsTrue, length};
-ghost use Rattle.std.specs.Prelude.{slice_get};
+ghost use Rattle.std.specs.Prelude.{slice_get, map};
 ghost use Rattle.std.specs.List.{All};
 ghost use Rattle.par_io.specs.Causes.{NoneFalls};
 ghost use Rattle.par_base.specs.Names.{IsName};
 ghost use Rattle.par_single.specs.Members as members;
+ghost use Rattle.par_single.specs.Members.{own_names};
 ghost use Rattle.par_loader.specs.Reads.{Text, WasFound, IsSpelled};
 ghost use Rattle.par_loader.specs.Mentions.{naming};
 ghost use Rattle.par_loader.specs.Loaded.{step};
@@ -20,6 +21,8 @@ use crate::file_names::class_file_name;
 use crate::found::{Unfound, class_file};
 use crate::mention::Mention;
 use crate::read_files::{Loading, name_at};
+use indexmap::IndexSet;
+use par_base::list::List;
 use par_base::name::{Name, text_of};
 use par_class::{ClassFile, MethodFile};
 use par_io::Folder;
@@ -193,6 +196,41 @@ fn begins(files: &[ClassFile]) -> bool
     }
 }
 
+/// Links files whose classes have these names.
+fn linked_files(
+    alloc: Global,
+    files: List<ClassFile>,
+    names: &IndexSet<Vec<u8>>,
+) -> Result<Linked, Unloaded>
+    requires some { 0 < length files }
+    requires few { length files ≤ MOST_READ }
+    requires spelled { All IsSpelled files }
+    requires names { map (λ name. name.items) names.now.keys ≡ own_names files }
+    requires named { All (λ file. IsName (members.own_name file)) files }
+    ensures links { Links files result }
+    ensures files { IfOk result (λ linked. linked ≡ files) }
+    ensures begun { IfOk result (λ linked. IsTrue (begins linked)) }
+    ensures unbroken { OnOk result (first_broken files ≡ None) }
+{
+    match link(alloc, files) {
+        Ok(linked) => {
+            if begins(linked.files()) {
+                return Ok(linked);
+            }
+            drop(linked);
+            Err(bad_class(alloc, name_at(names, 0), ABSENT_METHOD, 0))
+        }
+        Err(
+            LinkError::Broken {
+                number,
+                class,
+                index,
+            },
+        ) => Err(bad_class(alloc, name_at(names, class), number, index)),
+        Err(LinkError::Memory) => Err(Unloaded::Memory),
+    }
+}
+
 /// Links files that were loaded.
 fn linked(alloc: Global, loading: Loading) -> Result<Linked, Unloaded>
     requires some { 0 < length loading.files }
@@ -204,22 +242,9 @@ fn linked(alloc: Global, loading: Loading) -> Result<Linked, Unloaded>
     ensures unbroken { OnOk result (first_broken loading.files ≡ None) }
 {
     let Loading { files, names, .. } = loading;
-    match link(alloc, files) {
-        Ok(linked) => {
-            if begins(linked.files()) {
-                return Ok(linked);
-            }
-            Err(bad_class(alloc, name_at(&names, 0), ABSENT_METHOD, 0))
-        }
-        Err(
-            LinkError::Broken {
-                number,
-                class,
-                index,
-            },
-        ) => Err(bad_class(alloc, name_at(&names, class), number, index)),
-        Err(LinkError::Memory) => Err(Unloaded::Memory),
-    }
+    let linked = linked_files(alloc, files, &names);
+    drop(names);
+    linked
 }
 
 /// The files of a program, which link and of which the first has a method that a run begins with:

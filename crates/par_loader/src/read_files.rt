@@ -1,7 +1,7 @@
 //! The class files that were read so far.
 
 ghost use Rattle.std.specs.Prelude.{◌≡◌, ◌≤◌, ◌<◌, ◌-◌, ◌∷◌, [], ◌++◌, Some, None, false, IfOk};
-ghost use Rattle.std.specs.Prelude.{IfSome};
+ghost use Rattle.std.specs.Prelude.{IfSome, OnOk};
 ghost use Rattle.std.specs.Prelude.{length, map, position, take, slice_get};
 ghost use Rattle.std.specs.List.{All};
 ghost use Rattle.std.specs.Option.{option_map, unwrap_or};
@@ -40,6 +40,18 @@ pub(crate) struct Loading {
     ghost named: { All (λ file. IsName (members.own_name file)) files },
 }
 
+/// Puts a name behind others, where it is none of them.
+fn put_name(alloc: Global, names: &mut IndexSet<Vec<u8>>, name: &[u8]) -> Result<(), NoMemory>
+    ensures { OnOk result
+        (list_any (λ k. bytes_eq name.now k.items) names.old.keys ≡ false
+        → map (λ k. k.items) names.new.keys
+        ≡ map (λ k. k.items) names.old.keys ++ name.now ∷ []) }
+{
+    let name = name.to_vec(alloc)?;
+    names.insert(name)?;
+    Ok(())
+}
+
 impl Loading {
     /// One file that was read.
     pub(crate) fn of(alloc: Global, file: ClassFile) -> Result<Loading, NoMemory>
@@ -47,7 +59,22 @@ impl Loading {
         ensures { IfOk result (λ loading. loading.files ≡ file ∷ []) }
     {
         let mut names = IndexSet::new(alloc);
-        names.insert(own_name(&file).to_vec(alloc)?)?;
+        match put_name(alloc, &mut names, own_name(&file)) {
+            Ok(()) => Loading::first(alloc, file, names),
+            Err(error) => {
+                drop(names);
+                drop(file);
+                Err(error)
+            }
+        }
+    }
+
+    /// One file that was read, with the name of its class.
+    fn first(alloc: Global, file: ClassFile, names: IndexSet<Vec<u8>>) -> Result<Loading, NoMemory>
+        requires named { IsName (members.own_name file) }
+        requires names { map (λ name. name.items) names.keys ≡ members.own_name file ∷ [] }
+        ensures { IfOk result (λ loading. loading.files ≡ file ∷ []) }
+    {
         let mut files = List::new(alloc);
         files.push(file)?;
         Ok(Loading {
@@ -172,11 +199,38 @@ impl Loading {
         ensures { IfOk result (λ loading. loading.files ≡ self.files ++ file ∷ []) }
     {
         let Loading {
-            mut files,
+            files,
             mut names,
             ..
         } = self;
-        names.insert(own_name(&file).to_vec(alloc)?)?;
+        match put_name(alloc, &mut names, own_name(&file)) {
+            Ok(()) => Loading::behind(files, names, file, done, read),
+            Err(error) => {
+                drop(names);
+                drop(files);
+                drop(file);
+                Err(error)
+            }
+        }
+    }
+
+    /// Files and one more that was read, with the names of their classes.
+    fn behind(
+        mut files: List<ClassFile>,
+        names: IndexSet<Vec<u8>>,
+        file: ClassFile,
+        done: usize,
+        read: usize,
+    ) -> Result<Loading, NoMemory>
+        requires named { IsName (members.own_name file) }
+        requires each_named { All (λ file. IsName (members.own_name file)) files }
+        requires names { map (λ name. name.items) names.keys
+            ≡ own_names files ++ members.own_name file ∷ [] }
+        requires done { first_among files (take done files) ≡ None }
+        requires read { AreReadAt files done read }
+        requires within { done < length files }
+        ensures { IfOk result (λ loading. loading.files ≡ files ++ file ∷ []) }
+    {
         files.push(file)?;
         Ok(Loading {
             files,

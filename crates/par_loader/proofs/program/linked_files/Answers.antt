@@ -5,11 +5,11 @@ use Rattle.par_loader.specs.Judged.{name_of, begins}
 use Rattle.par_loader.specs.Ends.{IsBadAs, main_of}
 use Rattle.par_loader.proofs.Linking.{broken-within, name_is, name_named, broken_is}
 use Rattle.par_loader.proofs.Linking.{begins_not, links_bad}
-use Rattle.par_loader.proofs.program.linked.Goals as goal
+use Rattle.par_loader.proofs.program.linked_files.Goals as goal
 
 pub bad_class-requires-in-Err-Broken : goal.bad_class-requires-in-Err-Broken
 bad_class-requires-in-Err-Broken c =
-    let files = c.args.loading.files in
+    let files = c.args.files in
     let b : Broken =
     record {
       number = c.in-Err-Broken.number;
@@ -19,14 +19,14 @@ bad_class-requires-in-Err-Broken c =
     let is : first_broken files ≡ Some b =
     rw c.in-Err-Broken.field-0-is at c.in-Err-Broken.ensures.broken in
     let name = c.name_at-in-Err-Broken.ensures
-    ∙ name_is (λ k. k.items) c.args.loading.names.keys files c.args.loading.names_are
+    ∙ name_is (λ k. k.items) c.args.names.now.keys files c.requires.names
     c.in-Err-Broken.class in
     subst IsName (sym name)
-    (name_named files c.in-Err-Broken.class c.args.loading.named (broken-within files b is))
+    (name_named files c.in-Err-Broken.class c.requires.named (broken-within files b is))
 
 pub returns-in-Err-Broken-clause-links : goal.returns-in-Err-Broken-clause-links
 returns-in-Err-Broken-clause-links c =
-    let files = c.args.loading.files in
+    let files = c.args.files in
     let b : Broken =
     record {
       number = c.in-Err-Broken.number;
@@ -36,7 +36,7 @@ returns-in-Err-Broken-clause-links c =
     let is : first_broken files ≡ Some b =
     rw c.in-Err-Broken.field-0-is at c.in-Err-Broken.ensures.broken in
     let name = c.name_at-in-Err-Broken.ensures
-    ∙ name_is (λ k. k.items) c.args.loading.names.keys files c.args.loading.names_are
+    ∙ name_is (λ k. k.items) c.args.names.now.keys files c.requires.names
     c.in-Err-Broken.class in
     let told =
     subst (λ (n : List ℕ). IsBadAs n b.number b.index c.bad_class-in-Err-Broken.result) name
@@ -46,16 +46,16 @@ returns-in-Err-Broken-clause-links c =
 
 pub bad_class-requires : goal.bad_class-requires
 bad_class-requires c =
-    let files = c.args.loading.files in
+    let files = c.args.files in
     let name = c.name_at.ensures
-    ∙ name_is (λ k. k.items) c.args.loading.names.keys files c.args.loading.names_are 0 in
-    subst IsName (sym name) (name_named files 0 c.args.loading.named c.requires.some)
+    ∙ name_is (λ k. k.items) c.args.names.now.keys files c.requires.names 0 in
+    subst IsName (sym name) (name_named files 0 c.requires.named c.requires.some)
 
 pub returns-in-Ok-clause-links : goal.returns-in-Ok-clause-links
 returns-in-Ok-clause-links c =
-    let files = c.args.loading.files in
+    let files = c.args.files in
     let name = c.name_at.ensures
-    ∙ name_is (λ k. k.items) c.args.loading.names.keys files c.args.loading.names_are 0 in
+    ∙ name_is (λ k. k.items) c.args.names.now.keys files c.requires.names 0 in
     let told = subst (λ (n : List ℕ). IsBadAs n 42 0 c.bad_class.result) name c.bad_class.ensures in
     let none : first_broken files ≡ None = c.in-Ok.ensures.unbroken in
     let begun : begins files ≡ false =
