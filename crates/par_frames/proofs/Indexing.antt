@@ -1,6 +1,6 @@
 -- A frame whose locals and operands are placed one after the other.
 use Rattle.std.proofs.Common.{◌≡◌, ℕ, ◌+◌, ◌≤◌, ◌<◌, ◌^◌, List, [], ◌∷◌, ◌++◌, length, get_or}
-use Rattle.std.proofs.Common.{refl, sym, ap, ◌∙◌, subst, arith}
+use Rattle.std.proofs.Common.{refl, sym, ap, ◌∙◌, subst, append_assoc, arith}
 use Rattle.std.specs.Prelude.{Contains}
 use Rattle.std.specs.List.{AllZip, AllByRecursion}
 use Rattle.std.proofs.lemmas.List.Elements.{Contains-append_left}
@@ -51,6 +51,27 @@ pub first_room : (pool : List Constant) (slice : List VKind) (f : PlacedFrame)
 first_room pool slice f e h =
     subst (λ (ks : List VKind). HasRoom pool SPARE (classes_of ks)) (sym e)
     (room_among pool SPARE (classes_of f.frame.locals) (classes_of f.frame.stack) h)
+
+-- room for locals and operands, and then for others
+pub both_room : (pool : List Constant) (s t : List VKind) (f : PlacedFrame) (spare : ℕ)
+    (later : List Name) → s ≡ f.frame.locals → t ≡ f.frame.stack
+    → HasRoom pool spare (classes_in f ++ later)
+    → HasRoom pool spare (classes_of s ++ (classes_of t ++ later))
+both_room pool s t f spare later e g h =
+    subst (λ (ks : List VKind). HasRoom pool spare (classes_of ks ++ (classes_of t ++ later)))
+    (sym e)
+    (subst (λ (ks : List VKind).
+    HasRoom pool spare (classes_of f.frame.locals ++ (classes_of ks ++ later))) (sym g)
+    (subst (λ (names : List Name). HasRoom pool spare names)
+    (append_assoc (classes_of f.frame.locals) (classes_of f.frame.stack) later) h))
+
+pub second_room : (pool : List Constant) (s t : List VKind) (f : PlacedFrame)
+    → s ≡ f.frame.locals → t ≡ f.frame.stack → HasRoom pool SPARE (classes_in f)
+    → HasRoom pool SPARE (classes_of s ++ classes_of t)
+second_room pool s t f e g h =
+    subst (λ (ks : List VKind). HasRoom pool SPARE (classes_of ks ++ classes_of t)) (sym e)
+    (subst (λ (ks : List VKind). HasRoom pool SPARE (classes_of f.frame.locals ++ classes_of ks))
+    (sym g) h)
 
 pub first_added : (old new : List Constant) (slice : List VKind) (f : PlacedFrame)
     → slice ≡ f.frame.locals → AddsClasses old new (classes_of slice)

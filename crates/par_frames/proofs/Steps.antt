@@ -1,10 +1,10 @@
 -- Items placed one after the other, each with its classes.
-use Rattle.std.proofs.Common.{◌≡◌, ℕ, suc, ◌+◌, ◌<◌, length, get_or, drop, drop-cons, add-one}
+use Rattle.std.proofs.Common.{◌≡◌, ℕ, suc, ◌+◌, ◌<◌, ◌≤◌, length, get_or, drop, drop-cons, add-one}
 use Rattle.std.proofs.Common.{List, [], ◌∷◌, ◌++◌, refl, sym, ap, subst, ◌∙◌, append_assoc}
 use Rattle.std.specs.Prelude.{Contains}
 use Rattle.std.specs.List.{AllZip, AllByRecursion, flat_map}
 use Rattle.std.proofs.lemmas.Grind.{flat_map-append}
-use Rattle.std.proofs.lemmas.List.{append-nil}
+use Rattle.std.proofs.lemmas.List.{append-nil, drop_all}
 use Rattle.std.proofs.lemmas.List.Elements.{Contains-append_left}
 use Rattle.par_frame_forms.specs.par_pool.declared.constant.Constant.{Constant}
 use Rattle.par_kinds.specs.par_values.Areas.{Name}
@@ -127,6 +127,12 @@ module _ {A B : Type 0} (classes : A → List Name) (R : List Constant → A →
       ∙ ap (λ (xs : List A). flat_map classes xs) (sym p.split))
       (Contains-append_left (flat_map classes p.done ++ classes x) (flat_map classes rest) name c))
       (adds_then old mid now (flat_map classes p.done) (classes x) p.added added)
+
+  -- behind the last one nothing is left
+  pub last : (old now : List Constant) (all : List A) (i : ℕ) (made : List B) → length all ≤ i
+      → Placing old now all (drop i all) made → Placing old now all [] made
+  last old now all i made le p =
+      subst (λ (rest : List A). Placing old now all rest made) (drop_all all i le) p
 
   all_done : (old now : List Constant) (all : List A) (made : List B)
       → (p : Placing old now all [] made) → p.done ≡ all

@@ -1,4 +1,8 @@
-use Rattle.par_frames.proofs.Indexing.{first_room, first_added, both_added, indexed, indexed_fits}
+use Rattle.std.proofs.Common.{◌++◌}
+use Rattle.par_frames.specs.Names.{classes_of}
+use Rattle.par_frames.specs.Room.{SPARE}
+use Rattle.par_frames.proofs.Indexing.{first_room, both_room, second_room, first_added, both_added}
+use Rattle.par_frames.proofs.Indexing.{indexed, indexed_fits}
 use Rattle.par_frames.proofs.pool_classes.place_frame.Goals as goal
 
 pub place_kinds-requires-clause-room : goal.place_kinds-requires-clause-room
@@ -29,3 +33,17 @@ pub returns-clause-added : goal.returns-clause-added
 returns-clause-added c =
     both_added _ _ _ _ _ c.args.f.now c.as_slice.ensures c.as_slice-2.ensures
     c.place_kinds.ensures.added c.place_kinds-2.ensures.added
+
+pub place_kinds-requires-2-clause-room : goal.place_kinds-requires-2-clause-room
+place_kinds-requires-2-clause-room c =
+    c.in_ok-locals.ensures.room SPARE (classes_of c.as_slice-2.result.now)
+    (second_room c.args.pool.now c.as_slice.result.now c.as_slice-2.result.now c.args.f.now
+    c.as_slice.ensures c.as_slice-2.ensures c.requires.room)
+
+pub returns-clause-room : goal.returns-clause-room
+returns-clause-room c = λ spare later h.
+    c.in_ok-stack.ensures.room spare later
+    (c.in_ok-locals.ensures.room spare
+    (classes_of c.as_slice-2.result.now ++ later)
+    (both_room c.args.pool.now c.as_slice.result.now c.as_slice-2.result.now c.args.f.now spare
+    later c.as_slice.ensures c.as_slice-2.ensures h))

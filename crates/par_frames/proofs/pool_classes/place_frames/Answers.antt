@@ -1,7 +1,7 @@
 use Rattle.par_frames.specs.Names.{classes_in}
 use Rattle.par_frames.specs.Forms.{IsIndexed, IndexedFits}
 use Rattle.par_frames.proofs.Indexing.{indexed_kept, last_known, last_fits, last_stands}
-use Rattle.par_frames.proofs.Steps.{next, next_room, failed, step}
+use Rattle.par_frames.proofs.Steps.{next, next_room, failed, step, last, all_stand, all_added}
 use Rattle.par_frames.proofs.pool_classes.place_frames.Goals as goal
 
 pub place_frame-requires-clause-room : goal.place_frame-requires-clause-room
@@ -45,3 +45,20 @@ loop-f-preserved c = record {
       last_known _ _ _ _ _ _ c.in_ok-i.ensures.indexed c.in_ok-push.ensures.ok
       c.as_slice-earlier.ensures;
 }
+
+pub returns-clause-indexed : goal.returns-clause-indexed
+returns-clause-indexed c =
+    all_stand classes_in IsIndexed IndexedFits _ _ _ _
+    (last classes_in IsIndexed IndexedFits _ _ _ _ _ c.loop-f-test.false
+    c.loop-f.invariant.placing)
+
+pub returns-clause-room : goal.returns-clause-room
+returns-clause-room c =
+    (last classes_in IsIndexed IndexedFits _ _ _ _ _ c.loop-f-test.false
+    c.loop-f.invariant.placing).room
+
+pub returns-clause-added : goal.returns-clause-added
+returns-clause-added c =
+    all_added classes_in IsIndexed IndexedFits _ _ _ _
+    (last classes_in IsIndexed IndexedFits _ _ _ _ _ c.loop-f-test.false
+    c.loop-f.invariant.placing)

@@ -2,7 +2,7 @@ use Rattle.par_frame_forms.specs.Spelled.{TypeFits}
 use Rattle.par_frames.specs.Names.{class_of, StandsFor}
 use Rattle.par_frames.proofs.Classes.{kind_kept}
 use Rattle.par_frames.proofs.Indexing.{kinds_kept}
-use Rattle.par_frames.proofs.Steps.{next, next_room, failed, step}
+use Rattle.par_frames.proofs.Steps.{next, next_room, failed, step, last, all_stand, all_added}
 use Rattle.par_frames.proofs.pool_classes.place_kinds.Goals as goal
 
 pub place_again-requires-clause-room : goal.place_again-requires-clause-room
@@ -37,3 +37,20 @@ loop-place-preserved c =
     c.loop-place.invariant)
     c.place_again.ensures.added c.in_ok-place_again.ensures.stands c.in_ok-place_again.ensures.fits
     c.in_ok-place_again.ensures.room _ c.in_ok-push.ensures.ok
+
+pub returns-clause-stand : goal.returns-clause-stand
+returns-clause-stand c =
+    all_stand class_of StandsFor TypeFits _ _ _ _
+    (last class_of StandsFor TypeFits _ _ _ _ _ c.loop-place-test.false
+    c.loop-place.invariant)
+
+pub returns-clause-room : goal.returns-clause-room
+returns-clause-room c =
+    (last class_of StandsFor TypeFits _ _ _ _ _ c.loop-place-test.false
+    c.loop-place.invariant).room
+
+pub returns-clause-added : goal.returns-clause-added
+returns-clause-added c =
+    all_added class_of StandsFor TypeFits _ _ _ _
+    (last class_of StandsFor TypeFits _ _ _ _ _ c.loop-place-test.false
+    c.loop-place.invariant)
