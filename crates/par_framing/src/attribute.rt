@@ -18,7 +18,7 @@ use par_base::memory::NoMemory;
 use par_class::Attribute;
 use par_code_form::Labelled;
 use par_frames::write_frames;
-use par_kinds::frame::{MethodFrames, PlacedFrame};
+use par_kinds::frame::MethodFrames;
 use par_pool::PoolBuilder;
 use std::alloc::Global;
 
@@ -26,26 +26,26 @@ use std::alloc::Global;
 fn table_of(
     alloc: Global,
     code: &Labelled,
-    frames: List<PlacedFrame>,
+    frames: &MethodFrames,
     pool: &mut PoolBuilder,
 ) -> Result<List<Attribute>, NoMemory>
-    requires ascend { Ascend 0 (offsets frames) }
-    requires short { All IsShort frames }
-    requires room { HasRoom pool.old (1 + SPARE) (classes_named frames) }
-    ensures are { IfOk result (λ as'. AreAttributes pool.new code.now frames as') }
+    requires ascend { Ascend 0 (offsets frames.now.at) }
+    requires short { All IsShort frames.now.at }
+    requires room { HasRoom pool.old (1 + SPARE) (classes_named frames.now.at) }
+    ensures are { IfOk result (λ as'. AreAttributes pool.new code.now frames.now.at as') }
     ensures fit { IfOk result (λ as'. AreSized as' → AllFit (FitsAttribute pool.new) as') }
     ensures room { (spare : ℕ) (later : Items Name) →
-        HasRoom pool.old (1 + spare) (classes_named frames ++ later) →
+        HasRoom pool.old (1 + spare) (classes_named frames.now.at ++ later) →
         IfOk result (λ _. HasRoom pool.new spare later) }
-    ensures added { AddsTable pool.old pool.new (classes_named frames) }
+    ensures added { AddsTable pool.old pool.new (classes_named frames.now.at) }
 {
-    let mut attributes = List::new(alloc);
-    if frames.len() == 0 {
-        return Ok(attributes);
+    if frames.at.len() == 0 {
+        return Ok(List::new(alloc));
     }
     let name = pool.utf8(b"StackMapTable")?;
     let start = kinds_of(alloc, code.start.as_slice())?;
-    let bytes = write_frames(alloc, &MethodFrames { at: frames }, start.as_slice(), pool)?;
+    let bytes = write_frames(alloc, frames, start.as_slice(), pool)?;
+    let mut attributes = List::new(alloc);
     attributes.push(Attribute {
         name,
         bytes: List::wrap(bytes),
@@ -73,6 +73,9 @@ pub fn attributes_of(
         IfOk result (λ _. HasRoom pool.new spare later) }
     ensures added { AddsTable pool.old pool.new (frame_classes code.now) }
 {
-    let frames = frames_at(alloc, code, offsets)?;
-    table_of(alloc, code, frames, pool)
+    let at = frames_at(alloc, code, offsets)?;
+    let frames = MethodFrames { at };
+    let table = table_of(alloc, code, &frames, pool);
+    drop(frames);
+    table
 }

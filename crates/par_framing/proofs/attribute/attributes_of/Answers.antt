@@ -20,12 +20,12 @@ frames_at-requires c = record {
 
 pub table_of-requires-clause-ascend : goal.table_of-requires-clause-ascend
 table_of-requires-clause-ascend c =
-    subst (λ (fs : List PlacedFrame). Ascend 0 (offsets fs)) (sym c.in_ok-frames.ensures)
+    subst (λ (fs : List PlacedFrame). Ascend 0 (offsets fs)) (sym c.in_ok-at.ensures)
     (frames_ascend c.args.code.now c.args.offsets.now c.requires.placeable c.requires.labels)
 
 pub table_of-requires-clause-short : goal.table_of-requires-clause-short
 table_of-requires-clause-short c =
-    subst (λ (fs : List PlacedFrame). All IsShort fs) (sym c.in_ok-frames.ensures)
+    subst (λ (fs : List PlacedFrame). All IsShort fs) (sym c.in_ok-at.ensures)
     (all_short (slice_index c.args.offsets.now) c.args.code.now
     (omega (arith, c.requires.few_locals)) (omega (arith, c.requires.few_operands))
     c.requires.placeable)
@@ -35,28 +35,28 @@ table_of-requires-clause-room c =
     let code = c.args.code.now in
     let f = slice_index c.args.offsets.now in
     subst (λ (fs : List PlacedFrame). HasRoom c.args.pool.now (1 + SPARE) (classes_named fs))
-    (sym c.in_ok-frames.ensures)
+    (sym c.in_ok-at.ensures)
     (room_fewer c.args.pool.now (1 + SPARE) (classes_named (frames_with f code))
     (frame_classes code) (classes_written f code) c.requires.room)
 
-pub returns-in_err-frames-clause-added : goal.returns-in_err-frames-clause-added
-returns-in_err-frames-clause-added c =
+pub returns-in_err-at-clause-added : goal.returns-in_err-at-clause-added
+returns-in_err-at-clause-added c =
     table_none c.args.pool.now (frame_classes c.args.code.now)
 
 pub returns-clause-are : goal.returns-clause-are
 returns-clause-are c =
     subst (λ (fs : List PlacedFrame).
-    IfOk c.table_of.result (λ as'. AreAttributes c.table_of.new.pool c.args.code.now fs as'))
-    c.in_ok-frames.ensures c.table_of.ensures.are
+    IfOk c.table_of-table.result (λ as'. AreAttributes c.table_of-table.new.pool c.args.code.now fs as'))
+    c.in_ok-at.ensures c.table_of-table.ensures.are
 
 pub returns-clause-room : goal.returns-clause-room
 returns-clause-room c = λ spare later h.
     let code = c.args.code.now in
     let f = slice_index c.args.offsets.now in
     let fs = frames_with f code in
-    c.table_of.ensures.room spare later
+    c.table_of-table.ensures.room spare later
     (subst (λ (gs : List PlacedFrame).
-    HasRoom c.args.pool.now (1 + spare) (classes_named gs ++ later)) (sym c.in_ok-frames.ensures)
+    HasRoom c.args.pool.now (1 + spare) (classes_named gs ++ later)) (sym c.in_ok-at.ensures)
     (room_fewer c.args.pool.now (1 + spare) (classes_named fs ++ later)
     (frame_classes code ++ later)
     (among_later (classes_named fs) (frame_classes code) later (classes_written f code)) h))
@@ -66,8 +66,8 @@ returns-clause-added c =
     let code = c.args.code.now in
     let f = slice_index c.args.offsets.now in
     let fs = frames_with f code in
-    table_among c.args.pool.now c.table_of.new.pool (classes_named fs) (frame_classes code)
+    table_among c.args.pool.now c.table_of-table.new.pool (classes_named fs) (frame_classes code)
     (classes_written f code)
     (subst (λ (gs : List PlacedFrame).
-    AddsTable c.args.pool.now c.table_of.new.pool (classes_named gs)) c.in_ok-frames.ensures
-    c.table_of.ensures.added)
+    AddsTable c.args.pool.now c.table_of-table.new.pool (classes_named gs)) c.in_ok-at.ensures
+    c.table_of-table.ensures.added)

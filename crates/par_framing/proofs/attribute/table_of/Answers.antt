@@ -17,56 +17,56 @@ pub write_frames-requires-clause-room : goal.write_frames-requires-clause-room
 write_frames-requires-clause-room c =
     let a = c.in_ok-name.ensures.added in
     room_behind c.args.pool.now c.utf8-2.new.self a.more a.behind 1 (1 + SPARE) SPARE a.number
-    (omega arith) (classes_named c.args.frames) c.requires.room
+    (omega arith) (classes_named c.args.frames.now.at) c.requires.room
 
 pub returns-then-len-eq0-clause-are : goal.returns-then-len-eq0-clause-are
 returns-then-len-eq0-clause-are c =
-    no_tables c.args.pool.now c.args.code.now c.args.frames c.new-attributes.result
-    (omega (arith, c.len.ensures, c.if-len-eq0.true)) c.new-attributes.ensures
+    no_tables c.args.pool.now c.args.code.now c.args.frames.now.at c.new.result
+    (omega (arith, c.len.ensures, c.if-len-eq0.true)) c.new.ensures
 
 pub returns-then-len-eq0-clause-fit : goal.returns-then-len-eq0-clause-fit
 returns-then-len-eq0-clause-fit c = λ sized.
-    none_fit c.args.pool.now c.new-attributes.result c.new-attributes.ensures
+    none_fit c.args.pool.now c.new.result c.new.ensures
 
 pub returns-then-len-eq0-clause-room : goal.returns-then-len-eq0-clause-room
 returns-then-len-eq0-clause-room c = λ spare later h.
-    room_skipped c.args.pool.now spare (classes_named c.args.frames) later h
+    room_skipped c.args.pool.now spare (classes_named c.args.frames.now.at) later h
 
 pub returns-then-len-eq0-clause-added : goal.returns-then-len-eq0-clause-added
 returns-then-len-eq0-clause-added c =
-    table_none c.args.pool.now (classes_named c.args.frames)
+    table_none c.args.pool.now (classes_named c.args.frames.now.at)
 
 pub returns-in_err-name-clause-added : goal.returns-in_err-name-clause-added
 returns-in_err-name-clause-added c =
-    table_first c.args.pool.now c.utf8-2.new.self (classes_named c.args.frames)
+    table_first c.args.pool.now c.utf8-2.new.self (classes_named c.args.frames.now.at)
     c.in_err-name.ensures.added
 
 pub returns-in_err-start-clause-added : goal.returns-in_err-start-clause-added
 returns-in_err-start-clause-added c =
-    table_first c.args.pool.now c.utf8-2.new.self (classes_named c.args.frames)
+    table_first c.args.pool.now c.utf8-2.new.self (classes_named c.args.frames.now.at)
     c.in_ok-name.ensures.added
 
 pub returns-in_err-bytes-clause-added : goal.returns-in_err-bytes-clause-added
 returns-in_err-bytes-clause-added c =
     table_then c.args.pool.now c.utf8-2.new.self c.write_frames.new.pool
-    (classes_named c.args.frames) c.in_ok-name.ensures.added c.in_err-bytes.ensures.added
+    (classes_named c.args.frames.now.at) c.in_ok-name.ensures.added c.in_err-bytes.ensures.added
 
 pub returns-in_err-push-clause-added : goal.returns-in_err-push-clause-added
 returns-in_err-push-clause-added c =
     table_then c.args.pool.now c.utf8-2.new.self c.write_frames.new.pool
-    (classes_named c.args.frames) c.in_ok-name.ensures.added c.in_ok-bytes.ensures.added
+    (classes_named c.args.frames.now.at) c.in_ok-name.ensures.added c.in_ok-bytes.ensures.added
 
 pub returns-clause-added : goal.returns-clause-added
 returns-clause-added c =
     table_then c.args.pool.now c.utf8-2.new.self c.write_frames.new.pool
-    (classes_named c.args.frames) c.in_ok-name.ensures.added c.in_ok-bytes.ensures.added
+    (classes_named c.args.frames.now.at) c.in_ok-name.ensures.added c.in_ok-bytes.ensures.added
 
 pub returns-clause-room : goal.returns-clause-room
 returns-clause-room c = λ spare later h.
     let a = c.in_ok-name.ensures.added in
     c.in_ok-bytes.ensures.room spare later
     (room_behind c.args.pool.now c.utf8-2.new.self a.more a.behind 1 (1 + spare) spare a.number
-    refl (classes_named c.args.frames ++ later) h)
+    refl (classes_named c.args.frames.now.at ++ later) h)
 
 pub returns-clause-are : goal.returns-clause-are
 returns-clause-are c =
@@ -74,13 +74,13 @@ returns-clause-are c =
     let pool = c.write_frames.new.pool in
     let start : c.as_slice-2.result.now ≡ kinds_of c.args.code.now.start =
     c.as_slice-2.ensures ∙ (c.in_ok-start.ensures ∙ ap kinds_of c.as_slice.ensures) in
-    one_table pool c.args.code.now c.args.frames c.push.new.self table
+    one_table pool c.args.code.now c.args.frames.now.at c.push.new.self table
     (omega (arith, c.len.ensures, c.if-len-eq0.false))
     (c.in_ok-push.ensures.ok ∙ ap (λ xs. xs ++ table ∷ []) c.new-attributes.ensures)
-    (name_kept c.utf8-2.new.self pool (classes_named c.args.frames) c.in_ok-name.name
+    (name_kept c.utf8-2.new.self pool (classes_named c.args.frames.now.at) c.in_ok-name.name
     c.in_ok-bytes.ensures.added c.in_ok-name.ensures.named)
-    (subst (λ (ks : List VKind). IsAttribute pool ks c.args.frames c.wrap.result) start
-    (subst (λ (bs : List ℕ). IsAttribute pool c.as_slice-2.result.now c.args.frames bs)
+    (subst (λ (ks : List VKind). IsAttribute pool ks c.args.frames.now.at c.wrap.result) start
+    (subst (λ (bs : List ℕ). IsAttribute pool c.as_slice-2.result.now c.args.frames.now.at bs)
     (sym c.wrap.ensures) c.in_ok-bytes.ensures.attribute))
 
 pub returns-clause-fit : goal.returns-clause-fit
@@ -89,6 +89,6 @@ returns-clause-fit c = λ sized.
     let pool = c.write_frames.new.pool in
     table_fits pool c.push.new.self table
     (c.in_ok-push.ensures.ok ∙ ap (λ xs. xs ++ table ∷ []) c.new-attributes.ensures)
-    (name_kept c.utf8-2.new.self pool (classes_named c.args.frames) c.in_ok-name.name
+    (name_kept c.utf8-2.new.self pool (classes_named c.args.frames.now.at) c.in_ok-name.name
     c.in_ok-bytes.ensures.added c.in_ok-name.ensures.named)
     (omega arith) sized
