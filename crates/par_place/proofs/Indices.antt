@@ -1,10 +1,10 @@
 -- What items and handlers name, as far as a loop has come.
 use Rattle.std.proofs.Common.{◌≡◌, ℕ, ◌+◌, ◌*◌, ◌<◌, ◌≤◌, List, [], ◌∷◌}
-use Rattle.std.proofs.Common.{◌++◌, length, get_or, take, sym, ap, subst, ◌∙◌, arith}
+use Rattle.std.proofs.Common.{◌++◌, length, get_or, take, sym, ap, subst, ◌∙◌, length-append, arith}
 use Rattle.std.specs.Prelude.{sum_by}
 use Rattle.std.specs.List.{AllZip}
 use Rattle.std.proofs.lemmas.List.{take_more}
-use Rattle.std.proofs.lemmas.List.Sums.{sum_by_more, sum_by-take-le}
+use Rattle.std.proofs.lemmas.List.Sums.{sum_by_more, sum_by_more_le, sum_by-take-le}
 use Rattle.par_pool.specs.declared.constant.Constant.{Constant}
 use Rattle.par_pool.specs.Growth.{Adds, IsClassPart}
 use Rattle.par_pool.proofs.Growth.{adds_then}
@@ -71,6 +71,21 @@ named_within items i x a b c indices lt is h q =
     (sum_by entries items) (IsNamedIn c items)
     (omega (arith, sum_by-take-le entries items (i + 1)))
     (named-added items i x a b c lt is h.added q)
+
+-- the pool has room for what one more item names
+pub room_left : (items : List Item) (i : ℕ) (x : Item) (a b : List Constant) (indices : List ℕ)
+    → i < length items → get_or items i x ≡ x → length a + sum_by entries items < 65535
+    → AreNamed items i a b indices → length b + entries x < 65535
+room_left items i x a b indices lt is room h =
+    omega (
+      arith,
+      room,
+      h.added.number,
+      ap length h.added.behind,
+      length-append a h.added.more,
+      sum_by_more_le entries items i x lt,
+      ap entries is,
+    )
 
 pub named_more : (items : List Item) (i : ℕ) (x : Item) (n : ℕ) (a b c : List Constant)
     (indices : List ℕ) → i < length items → get_or items i x ≡ x → AreNamed items i a b indices
