@@ -1,9 +1,8 @@
 -- How each form of a typed tree completes, and which breaks are inside.
-use Rattle.std.proofs.Common.{◌≡◌, ℕ, ◌+◌, ◌<◌, ◌≤◌, ℤ, Bool, true, false, not, ◌||◌, List}
+use Rattle.std.proofs.Common.{◌≡◌, ℕ, ◌+◌, ◌<◌, ◌≤◌, Bool, true, false, not, ◌||◌, List}
 use Rattle.std.proofs.Common.{Option, length, get_or, drop, refl, ap}
-use Rattle.par_typed.specs.par_lexer.declared.operator.BinOp.{BinOp}
-use Rattle.par_typed.specs.Plain.{Mark, TExp, Int, Boolean, Null, This, New, Local, Static}
-use Rattle.par_typed.specs.Plain.{Field, Input, Output, Call, Neg, Not, Binary, MayTExp, TExps}
+use Rattle.par_typed.specs.declared.ty.Ty.{Ty}
+use Rattle.par_typed.specs.Plain.{TExp, MayTExp}
 use Rattle.par_typed.specs.Plain.{TSta, Block, If, While, Try, Return, Break, Continue, Throw, Open}
 use Rattle.par_typed.specs.Plain.{Close, SetLocal, SetStatic, SetField, Eval, When}
 use Rattle.par_typed.specs.Plain.{MayTSta, NoElse, Otherwise, TStas, End, Then, TCatches, NoCatch}
@@ -11,11 +10,14 @@ use Rattle.par_typed.specs.Plain.{Catch}
 use Rattle.par_completes.specs.Typed.{is_true, breaks, else_breaks, some_break, some_catch_breaks}
 use Rattle.par_completes.specs.Typed.{completes, else_completes, last_completes}
 use Rattle.par_completes.specs.Typed.{some_catch_completes}
+use Rattle.par_erase.specs.declared.expr.PExprKind.{PExprKind, Field', Output', Call', Neg', Not'}
+use Rattle.par_erase.specs.declared.expr.PExprKind.{Binary'}
+use Rattle.par_erase.specs.declared.expr.PExprKind.TheVariants as expr
 use Rattle.par_erase.specs.declared.stmt.PStmt.{PStmt}
 use Rattle.par_erase.specs.declared.stmt.PStmt.TheVariants.{LockSet}
 use Rattle.par_erase.specs.declared.stmt.PCatch.{PCatch}
-use Rattle.par_erase.specs.Shown.{does, all_do, all_catch}
-use Rattle.par_erase.proofs.Shown.{shows, doings}
+use Rattle.par_erase.specs.Shown.{kind_of, does, all_do, all_catch}
+use Rattle.par_erase.proofs.Shown.{doings}
 use Rattle.par_erase.proofs.ExprForms.{left_more, left_none}
 
 pub breaks_block : (ss : TStas) (at p : ℕ)
@@ -262,75 +264,28 @@ unfolding does completes
 completes_lock_set i lock true = refl
 completes_lock_set i lock false = refl
 
-pub true_int : (v : ℤ) (m : Mark)
-    → is_true (Int v m) ≡ false
-unfolding is_true
-true_int v m = refl
+pub true_bool : (w : ℕ → ℕ) (b : Bool) (t : Ty) → is_true (kind_of w (expr.Bool b) t) ≡ b
+unfolding kind_of is_true
+true_bool w b t = refl
 
-pub true_boolean : (b : Bool) (m : Mark)
-    → is_true (Boolean b m) ≡ b
-unfolding is_true
-true_boolean b m = refl
-
-pub true_null : (m : Mark)
-    → is_true (Null m) ≡ false
-unfolding is_true
-true_null m = refl
-
-pub true_this : (m : Mark)
-    → is_true (This m) ≡ false
-unfolding is_true
-true_this m = refl
-
-pub true_new : (c : ℕ) (m : Mark)
-    → is_true (New c m) ≡ false
-unfolding is_true
-true_new c m = refl
-
-pub true_local : (x : ℕ) (m : Mark)
-    → is_true (Local x m) ≡ false
-unfolding is_true
-true_local x m = refl
-
-pub true_static : (c f : ℕ) (m : Mark)
-    → is_true (Static c f m) ≡ false
-unfolding is_true
-true_static c f m = refl
-
-pub true_field : (e : TExp) (c f : ℕ) (m : Mark)
-    → is_true (Field e c f m) ≡ false
-unfolding is_true
-true_field e c f m = refl
-
-pub true_input : (c i : ℕ) (m : Mark)
-    → is_true (Input c i m) ≡ false
-unfolding is_true
-true_input c i m = refl
-
-pub true_output : (c i : ℕ) (e : TExp) (m : Mark)
-    → is_true (Output c i e m) ≡ false
-unfolding is_true
-true_output c i e m = refl
-
-pub true_call : (c i : ℕ) (o : MayTExp) (es : TExps) (m : Mark)
-    → is_true (Call c i o es m) ≡ false
-unfolding is_true
-true_call c i o es m = refl
-
-pub true_neg : (e : TExp) (m : Mark)
-    → is_true (Neg e m) ≡ false
-unfolding is_true
-true_neg e m = refl
-
-pub true_not : (e : TExp) (m : Mark)
-    → is_true (Not e m) ≡ false
-unfolding is_true
-true_not e m = refl
-
-pub true_binary : (op : BinOp) (a b : TExp) (m : Mark)
-    → is_true (Binary op a b m) ≡ false
-unfolding is_true
-true_binary op a b m = refl
+-- what is no literal of a truth is not the literal `true`
+pub no_truth : (w : ℕ → ℕ) (k : PExprKind) (t : Ty) → ((b : Bool) → k ≡ expr.Bool b → ⊥)
+    → is_true (kind_of w k t) ≡ false
+unfolding kind_of is_true
+no_truth w (expr.Int n) t none = refl
+no_truth w (expr.Bool b) t none = absurd (none b refl)
+no_truth w expr.Null t none = refl
+no_truth w expr.This t none = refl
+no_truth w (expr.New class) t none = refl
+no_truth w (expr.Local x) t none = refl
+no_truth w (expr.Static c f) t none = refl
+no_truth w (Field' p k u c f) t none = refl
+no_truth w (expr.Input c i) t none = refl
+no_truth w (Output' c i p k u) t none = refl
+no_truth w (Call' c i o shape row) t none = refl
+no_truth w (Neg' p k u) t none = refl
+no_truth w (Not' p k u) t none = refl
+no_truth w (Binary' op p j u q k v) t none = refl
 
 -- what stands behind `else`, or nothing
 pub ruleset completing_else = (completes_else_none, completes_else)
@@ -357,25 +312,6 @@ pub ruleset completing = (
   completes_when,
   completes_lock_set,
   doings,
-)
-
--- each kind of expression
-pub ruleset truths = (
-  shows,
-  true_int,
-  true_boolean,
-  true_null,
-  true_this,
-  true_new,
-  true_local,
-  true_static,
-  true_field,
-  true_input,
-  true_output,
-  true_call,
-  true_neg,
-  true_not,
-  true_binary,
 )
 
 -- what is left of statements and of catches

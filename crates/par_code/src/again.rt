@@ -19,15 +19,15 @@ pub fn continues(stmt: &PStmt) -> bool
         PStmt::LockIf(_, body, other) => continues(body) || else_continues(other),
         PStmt::Try(body, catches) => continues(body) || some_catch_continues(catches.as_slice()),
         PStmt::Continue => true,
-        PStmt::While(_, _)
-        | PStmt::Return(_)
-        | PStmt::Break
-        | PStmt::Throw(_)
-        | PStmt::SetLocal(_, _)
-        | PStmt::SetStatic(_, _, _)
-        | PStmt::SetField(_, _, _, _)
-        | PStmt::Eval(_)
-        | PStmt::LockSet(_, _) => false,
+        PStmt::While(_, _) => false,
+        PStmt::Return(_) => false,
+        PStmt::Break => false,
+        PStmt::Throw(_) => false,
+        PStmt::SetLocal(_, _) => false,
+        PStmt::SetStatic(_, _, _) => false,
+        PStmt::SetField(_, _, _, _) => false,
+        PStmt::Eval(_) => false,
+        PStmt::LockSet(_, _) => false,
     }
 }
 

@@ -13,7 +13,7 @@ ghost use Rattle.par_code.specs.Drafts.{with_shape, with_new, with_expr, with_ma
 use crate::draft::Draft;
 use crate::shape::{Shape, is_number, load, shape_of};
 use crate::words::{
-    class_name, field_item, initializer_item, input_item, method_item, output_item,
+    class_initializer, class_name, field_item, input_item, method_item, output_item,
 };
 use par_base::memory::NoMemory;
 use par_code_form::Item;
@@ -54,12 +54,30 @@ pub fn put_new(
         ≡ with_new (class_word (table_of plain.now) class) (length operands.now)
         (seen draft.old)) }
 {
-    let name = class_name(alloc, plain, class)?;
-    let initializer = initializer_item(alloc, &name)?;
     draft.reach(operands.len() + 2)?;
+    let name = class_name(alloc, plain, class)?;
     draft.put(Item::ClassOp(NEW, name))?;
     draft.put(Item::Op(Instr::Dup))?;
+    let initializer = class_initializer(alloc, plain, class)?;
     draft.put(initializer)
+}
+
+// Marks a label where one more operand lies there, which is a truth.
+fn land_with_truth(
+    alloc: Global,
+    plain: &Plain,
+    label: u32,
+    scope: &[Ty],
+    operands: &[Ty],
+    draft: &mut Draft,
+) -> Result<(), NoMemory>
+    ensures { OnOk result (seen draft.new ≡ state.land (words_of (table_of plain.now)) label
+        scope.now (operands.now ++ Ty.Boolean ∷ []) (seen draft.old)) }
+{
+    let with_value = with_operand(alloc, operands, Ty::Boolean)?;
+    let landed = draft.land(alloc, plain, label, scope, with_value.as_slice());
+    drop(with_value);
+    landed
 }
 
 // 1 where the branch is taken, else 0.
@@ -78,13 +96,12 @@ fn put_test(
         ≡ with_test (words_of (table_of plain.now)) scope.now operands.now opcode label
         (seen draft.old)) }
 {
-    let with_value = with_operand(alloc, operands, Ty::Boolean)?;
     draft.put(Item::Jump(opcode, label))?;
     draft.put(Item::Const(0))?;
     draft.put(Item::Jump(GOTO, label + 1))?;
     draft.land(alloc, plain, label, scope, operands)?;
     draft.put(Item::Const(1))?;
-    draft.land(alloc, plain, label + 1, scope, with_value.as_slice())
+    land_with_truth(alloc, plain, label + 1, scope, operands, draft)
 }
 
 // How many labels the operator needs.
@@ -152,10 +169,7 @@ fn put_shape(
     match shape {
         Shape::Calculates(instr) => draft.put(Item::Op(instr)),
         Shape::Compares(opcode) => { put_test(alloc, plain, scope, operands, opcode, label, draft) }
-        Shape::Decides(_) => {
-            let with_value = with_operand(alloc, operands, Ty::Boolean)?;
-            draft.land(alloc, plain, label, scope, with_value.as_slice())
-        }
+        Shape::Decides(_) => land_with_truth(alloc, plain, label, scope, operands, draft),
     }
 }
 
@@ -206,14 +220,7 @@ pub fn put_expr(
         PExprKind::Call(class, method, of, args) => {
             put_receiver(alloc, plain, scope, operands, of, draft)?;
             let below = below_args(alloc, operands, of)?;
-            put_args(
-                alloc,
-                plain,
-                scope,
-                below.as_slice(),
-                args.as_slice(),
-                draft,
-            )?;
+            put_above(alloc, plain, scope, below, args.as_slice(), draft)?;
             draft.reach(with_result(expr.ty, operands))?;
             let item = method_item(alloc, plain, invoke(of), *class, *method)?;
             draft.put(item)
@@ -232,8 +239,7 @@ pub fn put_expr(
             let label = draft.take(label_count(shape))?;
             put_expr(alloc, plain, scope, operands, left, draft)?;
             put_between(shape, operands, label, draft)?;
-            let below = below_second(alloc, shape, operands, left.ty)?;
-            put_expr(alloc, plain, scope, below.as_slice(), right, draft)?;
+            put_second(alloc, plain, scope, operands, shape, left.ty, right, draft)?;
             put_shape(alloc, plain, scope, operands, shape, label, draft)
         }
     }
@@ -295,22 +301,63 @@ fn put_receiver(
     }
 }
 
-// The arguments of a call, one above the other.
+// The second part of an operator of this shape, whose first part has this type.
+#[cycle(expr)]
+fn put_second(
+    alloc: Global,
+    plain: &Plain,
+    scope: &[Ty],
+    operands: &[Ty],
+    shape: Shape,
+    first: Ty,
+    second: &PExpr,
+    draft: &mut Draft,
+) -> Result<(), NoMemory>
+    ensures { OnOk result (seen draft.new
+        ≡ with_expr (words_of (table_of plain.now)) scope.now
+        (below_second shape operands.now first)
+        (shown (inputs_of plain.now) second.now) (seen draft.old)) }
+{
+    let below = below_second(alloc, shape, operands, first)?;
+    let put = put_expr(alloc, plain, scope, below.as_slice(), second, draft);
+    drop(below);
+    put
+}
+
+// The arguments of a call, above these operands.
+#[cycle(expr)]
+fn put_above(
+    alloc: Global,
+    plain: &Plain,
+    scope: &[Ty],
+    mut below: Vec<Ty>,
+    args: &[PExpr],
+    draft: &mut Draft,
+) -> Result<(), NoMemory>
+    ensures { OnOk result (seen draft.new
+        ≡ with_args (words_of (table_of plain.now)) scope.now below.items
+        (all_shown (inputs_of plain.now) args.now) (seen draft.old)) }
+{
+    let put = put_args(alloc, plain, scope, &mut below, args, draft);
+    drop(below);
+    put
+}
+
+// The arguments of a call, one above the other. They lie there behind it, above the operands.
 #[cycle(expr)]
 #[tactic(auto, using(crate::proofs::ExprForms::emits))]
 fn put_args(
     alloc: Global,
     plain: &Plain,
     scope: &[Ty],
-    operands: &[Ty],
+    below: &mut Vec<Ty>,
     args: &[PExpr],
     draft: &mut Draft,
 ) -> Result<(), NoMemory>
     ensures { OnOk result (seen draft.new
-        ≡ with_args (words_of (table_of plain.now)) scope.now operands.now
+        ≡ with_args (words_of (table_of plain.now)) scope.now below.old.items
         (all_shown (inputs_of plain.now) args.now) (seen draft.old)) }
 {
-    let mut below = operands.to_vec(alloc)?;
     for arg in args {
         put_expr(alloc, plain, scope, below.as_slice(), arg, draft)?;
         below.push(arg.ty)?;

@@ -7,25 +7,12 @@ ghost use Rattle.par_erase.specs.Shown.{shown, does, otherwise, all_do, all_catc
 use par_erase::{PCatch, PExpr, PExprKind, PStmt};
 
 /// Whether an expression is the literal `true`.
-#[tactic(auto, using(crate::proofs::WayForms::truths))]
 pub fn is_true(expr: &PExpr) -> bool
     ensures { (i : ℕ → ℕ) → result ≡ flow.is_true (shown i expr.now) }
 {
     match &expr.kind {
         PExprKind::Bool(value) => *value,
-        PExprKind::Int(_)
-        | PExprKind::Null
-        | PExprKind::This
-        | PExprKind::New(_)
-        | PExprKind::Local(_)
-        | PExprKind::Static(_, _)
-        | PExprKind::Field(_, _, _)
-        | PExprKind::Input(_, _)
-        | PExprKind::Output(_, _, _)
-        | PExprKind::Call(_, _, _, _)
-        | PExprKind::Neg(_)
-        | PExprKind::Not(_)
-        | PExprKind::Binary(_, _, _) => false,
+        _ => false,
     }
 }
 
@@ -41,15 +28,15 @@ pub fn breaks(stmt: &PStmt) -> bool
         PStmt::LockIf(_, body, other) => breaks(body) || else_breaks(other),
         PStmt::Try(body, catches) => breaks(body) || some_catch_breaks(catches.as_slice()),
         PStmt::Break => true,
-        PStmt::While(_, _)
-        | PStmt::Return(_)
-        | PStmt::Continue
-        | PStmt::Throw(_)
-        | PStmt::SetLocal(_, _)
-        | PStmt::SetStatic(_, _, _)
-        | PStmt::SetField(_, _, _, _)
-        | PStmt::Eval(_)
-        | PStmt::LockSet(_, _) => false,
+        PStmt::While(_, _) => false,
+        PStmt::Return(_) => false,
+        PStmt::Continue => false,
+        PStmt::Throw(_) => false,
+        PStmt::SetLocal(_, _) => false,
+        PStmt::SetStatic(_, _, _) => false,
+        PStmt::SetField(_, _, _, _) => false,
+        PStmt::Eval(_) => false,
+        PStmt::LockSet(_, _) => false,
     }
 }
 
@@ -102,12 +89,15 @@ pub fn completes(stmt: &PStmt) -> bool
         PStmt::LockIf(_, body, other) => completes(body) || else_completes(other),
         PStmt::While(test, body) => !is_true(test) || breaks(body),
         PStmt::Try(body, catches) => completes(body) || some_catch_completes(catches.as_slice()),
-        PStmt::Return(_) | PStmt::Break | PStmt::Continue | PStmt::Throw(_) => false,
-        PStmt::SetLocal(_, _)
-        | PStmt::SetStatic(_, _, _)
-        | PStmt::SetField(_, _, _, _)
-        | PStmt::Eval(_)
-        | PStmt::LockSet(_, _) => true,
+        PStmt::Return(_) => false,
+        PStmt::Break => false,
+        PStmt::Continue => false,
+        PStmt::Throw(_) => false,
+        PStmt::SetLocal(_, _) => true,
+        PStmt::SetStatic(_, _, _) => true,
+        PStmt::SetField(_, _, _, _) => true,
+        PStmt::Eval(_) => true,
+        PStmt::LockSet(_, _) => true,
     }
 }
 

@@ -103,6 +103,22 @@ pub fn method_text(alloc: Global, plain: &Plain, method: &PlainMethod) -> Result
     Ok(List::wrap(found))
 }
 
+// An instruction of this opcode on a member.
+fn member_item(
+    alloc: Global,
+    opcode: u8,
+    owner: &Name,
+    name: &[u8],
+    descriptor: List<u8>,
+) -> Result<Item, NoMemory>
+    ensures { IfOk result (λ item.
+        item ≡ Item.Member opcode owner.now name.now descriptor) }
+{
+    let owner = owner.copy(alloc)?;
+    let name = text(alloc, name)?;
+    Ok(Item::Member(opcode, owner, name, descriptor))
+}
+
 /// An instruction on a field.
 #[tactic(auto, using(crate::proofs::Names::names))]
 pub fn field_item(
@@ -120,10 +136,10 @@ pub fn field_item(
     match class.fields.get(usize::from(field)) {
         None => Err(NoMemory),
         Some(field) => {
-            let owner = class.name.copy(alloc)?;
-            let name = text(alloc, field.name.bytes())?;
             let descriptor = type_text(alloc, plain, field.ty)?;
-            Ok(Item::Member(opcode, owner, name, descriptor))
+            let name = field.name.bytes();
+            let item = member_item(alloc, opcode, &class.name, name, descriptor)?;
+            Ok(item)
         }
     }
 }
@@ -145,10 +161,10 @@ pub fn method_item(
     match class.methods.get(usize::from(method)) {
         None => Err(NoMemory),
         Some(method) => {
-            let owner = class.name.copy(alloc)?;
-            let name = text(alloc, method.name.bytes())?;
             let descriptor = method_text(alloc, plain, method)?;
-            Ok(Item::Member(opcode, owner, name, descriptor))
+            let name = method.name.bytes();
+            let item = member_item(alloc, opcode, &class.name, name, descriptor)?;
+            Ok(item)
         }
     }
 }
@@ -163,10 +179,10 @@ pub fn input_item(alloc: Global, plain: &Plain, class: u16, place: u16) -> Resul
     match class.inputs.get(usize::from(place)) {
         None => Err(NoMemory),
         Some(channel) => {
-            let owner = class.name.copy(alloc)?;
-            let name = text(alloc, channel.bytes())?;
             let descriptor = text(alloc, b"()I")?;
-            Ok(Item::Member(INVOKESTATIC, owner, name, descriptor))
+            let name = channel.bytes();
+            let item = member_item(alloc, INVOKESTATIC, &class.name, name, descriptor)?;
+            Ok(item)
         }
     }
 }
@@ -182,20 +198,28 @@ pub fn output_item(alloc: Global, plain: &Plain, class: u16, place: u16) -> Resu
     match class.outputs.get(usize::from(place)) {
         None => Err(NoMemory),
         Some(channel) => {
-            let owner = class.name.copy(alloc)?;
-            let name = text(alloc, channel.bytes())?;
             let descriptor = text(alloc, b"(I)V")?;
-            Ok(Item::Member(INVOKESTATIC, owner, name, descriptor))
+            let name = channel.bytes();
+            let item = member_item(alloc, INVOKESTATIC, &class.name, name, descriptor)?;
+            Ok(item)
         }
     }
 }
 
 /// The call of the initializer of a class.
-pub fn initializer_item(alloc: Global, class: &Name) -> Result<Item, NoMemory>
+fn initializer_item(alloc: Global, class: &Name) -> Result<Item, NoMemory>
     ensures { IfOk result (λ item. item ≡ initializer class.now) }
 {
-    let owner = class.copy(alloc)?;
-    let name = text(alloc, b"<init>")?;
     let descriptor = text(alloc, b"()V")?;
-    Ok(Item::Member(INVOKESPECIAL, owner, name, descriptor))
+    member_item(alloc, INVOKESPECIAL, class, b"<init>", descriptor)
+}
+
+/// The call of the initializer of the class of this number.
+pub fn class_initializer(alloc: Global, plain: &Plain, class: u16) -> Result<Item, NoMemory>
+    ensures { IfOk result (λ item. item ≡ initializer (class_word (table_of plain.now) class)) }
+{
+    let name = class_name(alloc, plain, class)?;
+    let item = initializer_item(alloc, &name);
+    drop(name);
+    item
 }

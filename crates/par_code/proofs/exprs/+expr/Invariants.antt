@@ -9,5 +9,5 @@ abbrev pub invariant-put_args-loop-arg : goal.invariant-put_args-loop-arg
 invariant-put_args-loop-arg l =
     with_args (words_of (table_of l.plain)) l.scope l.below.items
     (all_shown (inputs_of l.plain) (drop l.arg-index l.args)) (seen l.draft)
-    ≡ with_args (words_of (table_of l.plain)) l.scope l.operands
+    ≡ with_args (words_of (table_of l.plain)) l.scope l.fn.below.items
     (all_shown (inputs_of l.plain) l.args) (seen l.fn.draft)
