@@ -236,6 +236,45 @@ module _ (files : List ClassFile) (a : Areas)
             (set_past a.objects class written past)
       ]
 
+-- an object is written, or it is null: nothing else comes of a write
+module _ (classes : List Name) (f : FieldLink) (v : MVal) (a : Areas) where
+  thrown_other : (object w : MVal) → field_written classes object f v a ≡ ThrowsObject w → ⊥
+  thrown_other Null w is = cc
+  thrown_other (Int m) w is = cc
+  thrown_other (Ref c k) w is = cc
+
+  gives_other : (object w : MVal) → field_written classes object f v a ≡ ReturnsWith w → ⊥
+  gives_other Null w is = cc
+  gives_other (Int m) w is = cc
+  gives_other (Ref c k) w is = cc
+
+  goes_other : (object : MVal) (b : Areas) → field_written classes object f v a ≡ Goes b → ⊥
+  goes_other Null b is = cc
+  goes_other (Int m) b is = cc
+  goes_other (Ref c k) b is = cc
+
+  jumps_other : (object : MVal) (to : ℤ) (b : Areas)
+      → field_written classes object f v a ≡ Jumps to b → ⊥
+  jumps_other Null to b is = cc
+  jumps_other (Int m) to b is = cc
+  jumps_other (Ref c k) to b is = cc
+
+  abbrev IsNoPut : Event → Type 0
+  IsNoPut (Put class n name v) = ⊥
+  IsNoPut e = Unit {0}
+
+  happens_other : (object : MVal) (e : Event) (b : Areas) → IsNoPut e
+      → field_written classes object f v a ≡ Happens e b → ⊥
+  happens_other Null e b none is = cc
+  happens_other (Int m) e b none is = cc
+  happens_other (Ref c k) e b none is =
+      let same : Put f.class k f.name (shown_value classes v) ≡ e = cc in
+      subst IsNoPut (sym same) none
+
+-- as many are not more than one more
+as_many : (n m : ℕ) → n ≡ m → n ≤ suc m
+as_many n m same = omega arith
+
 module _ (area : Area) (old : Running) (s : Site) (ahead : Bool) (sound : IsSound area old)
     (there : IsThere area.files old s ahead) (index : ℕ)
     (instr_is : s.instr ≡ Putfield index) (f : FieldLink) (x : NamedField)
@@ -300,7 +339,7 @@ module _ (area : Area) (old : Running) (s : Site) (ahead : Bool) (sound : IsSoun
         ap (λ (xs : List Fields). length xs) (sym now)
         ∙ ap (λ os. length (list_or_none (slice_get os c))) objects_are ∙ same
         ∙ ap (λ (xs : List Fields). length xs) was in
-        omega (arith, one)
+        as_many (length (heap.objects_of held c)) (length (heap.objects_of old.heap c)) one
 
     put_known : IsKnown area.files s (done.Puts n v)
     put_known = (
@@ -333,66 +372,32 @@ module _ (area : Area) (old : Running) (s : Site) (ahead : Bool) (sound : IsSoun
       (still_come area old s ahead sound there d (areas_in w.after (running frames)) still
       (put_is d (areas_in w.after (running frames)) w.comes)) known_by))
 
-  thrown_other : (object v : MVal) → field_written classes object f (operand 0 a) a ≡ ThrowsObject v
-      → ⊥
-  thrown_other Null v is = cc
-  thrown_other (Int m) v is = cc
-  thrown_other (Ref c k) v is = cc
-
-  gives_other : (object v : MVal) → field_written classes object f (operand 0 a) a ≡ ReturnsWith v
-      → ⊥
-  gives_other Null v is = cc
-  gives_other (Int m) v is = cc
-  gives_other (Ref c k) v is = cc
-
-  goes_other : (object : MVal) (b : Areas) → field_written classes object f (operand 0 a) a ≡ Goes b
-      → ⊥
-  goes_other Null b is = cc
-  goes_other (Int m) b is = cc
-  goes_other (Ref c k) b is = cc
-
-  jumps_other : (object : MVal) (to : ℤ) (b : Areas)
-      → field_written classes object f (operand 0 a) a ≡ Jumps to b → ⊥
-  jumps_other Null to b is = cc
-  jumps_other (Int m) to b is = cc
-  jumps_other (Ref c k) to b is = cc
-
-  abbrev IsNoPut : Event → Type 0
-  IsNoPut (Put class n name v) = ⊥
-  IsNoPut e = Unit {0}
-
-  happens_other : (object : MVal) (e : Event) (b : Areas) → IsNoPut e
-      → field_written classes object f (operand 0 a) a ≡ Happens e b → ⊥
-  happens_other Null e b none is = cc
-  happens_other (Int m) e b none is = cc
-  happens_other (Ref c k) e b none is =
-      let same : Put f.class k f.name (shown_value classes (operand 0 a)) ≡ e = cc in
-      subst IsNoPut (sym same) none
-
   -- what a write to a field has done
   pub field_performed : (d : Done) → Write d → (IsTrue (is_still d) → frames ≡ old.stack)
       → (IsTrue (is_still d) → held ≡ old.heap)
       → IsPerformed area old s d (record old { stack = frames; heap = held })
   unfolding effect
   field_performed (done.Puts n v) w still unwritten = put_performed n v w
-  field_performed done.Goes w still unwritten = absurd (goes_other (operand 1 a) _ w.comes.1)
-  field_performed done.Jumps w still unwritten = absurd (jumps_other (operand 1 a) _ _ w.comes.1)
+  field_performed done.Goes w still unwritten =
+      absurd (goes_other classes f (operand 0 a) a (operand 1 a) _ w.comes.1)
+  field_performed done.Jumps w still unwritten =
+      absurd (jumps_other classes f (operand 0 a) a (operand 1 a) _ _ w.comes.1)
   field_performed done.ThrowsArithmetic w still unwritten =
       still_here done.ThrowsArithmetic w refl (still refl) (unwritten refl) tt
   field_performed (done.ThrowsNull later) w still unwritten =
       still_here (done.ThrowsNull later) w refl (still refl) (unwritten refl) tt
   field_performed (done.Throws v later) w still unwritten =
-      absurd (thrown_other (operand 1 a) v w.comes.1)
+      absurd (thrown_other classes f (operand 0 a) a (operand 1 a) v w.comes.1)
   field_performed (done.Sets v) w still unwritten =
-      absurd (happens_other (operand 1 a) _ _ tt w.comes.1)
+      absurd (happens_other classes f (operand 0 a) a (operand 1 a) _ _ tt w.comes.1)
   field_performed (done.Born n) w still unwritten =
-      absurd (happens_other (operand 1 a) _ _ tt w.comes.1)
+      absurd (happens_other classes f (operand 0 a) a (operand 1 a) _ _ tt w.comes.1)
   field_performed (done.Outs n) w still unwritten =
-      absurd (happens_other (operand 1 a) _ _ tt w.comes.1)
+      absurd (happens_other classes f (operand 0 a) a (operand 1 a) _ _ tt w.comes.1)
   field_performed done.Calls w still unwritten = absurd w.comes
   field_performed done.Returns w still unwritten =
       still_here done.Returns w refl (still refl) (unwritten refl) tt
   field_performed (done.ReturnsWith v) w still unwritten =
-      absurd (gives_other (operand 1 a) v w.comes.1)
+      absurd (gives_other classes f (operand 0 a) a (operand 1 a) v w.comes.1)
   field_performed (done.Bad n) w still unwritten =
       still_here (done.Bad n) w refl (still refl) (unwritten refl) tt

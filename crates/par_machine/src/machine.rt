@@ -19,7 +19,6 @@ use std::alloc::Global;
 /// Contracts see the files that it runs, its state, and how many instructions it has run. A step
 /// takes memory only where it calls a method or makes an object, or where names are handed out: in
 /// an event, an ending or bad code.
-#[derive(Drop)]
 pub struct Machine {
     alloc: Global,
     area: MethodArea,
@@ -27,6 +26,18 @@ pub struct Machine {
     steps: u32,
     ghost sound: { IsSound area running },
     ghost few: { (class : ℕ) → length (objects_of running.heap class) ≤ steps },
+}
+
+impl Drop for Machine {
+    // In one place, for all that own one.
+    fn drop(self) {
+        let Machine {
+            alloc: _,
+            area: _,
+            running: _,
+            steps: _,
+        } = self;
+    }
 }
 
 impl Machine {
@@ -38,6 +49,8 @@ impl Machine {
     ghost use Rattle.par_machine.specs.Machine.{files_of, state_of, steps_of, is_asking_at};
     ghost use Rattle.par_machine.specs.Quiet.{GoesOn};
     ghost use Rattle.par_machine.specs.Turn.{IsTurn, MakesOrTells, is_over};
+    ghost use Rattle.par_lines.specs.Lines.{channels_of};
+    ghost use Rattle.par_method_area.specs.Area.{KnowsLines};
 
     /// A machine before the first instruction of the method `main` of a class, with these inputs.
     ///
@@ -53,14 +66,37 @@ impl Machine {
         ensures state { IfOk result (λ machine. state_of machine ≡ start linked main inputs) }
         ensures steps { IfOk result (λ machine. steps_of machine ≡ 0) }
     {
-        let area = MethodArea::of(alloc, linked, &inputs)?;
-        let running = begin(alloc, &area, main, inputs)?;
-        Ok(Machine {
-            alloc,
-            area,
-            running,
-            steps: 0,
-        })
+        match MethodArea::of(alloc, linked, &inputs) {
+            Ok(area) => Machine::over(alloc, area, main, inputs),
+            Err(error) => {
+                drop(inputs);
+                Err(error)
+            }
+        }
+    }
+
+    /// A machine before the first instruction of the method `main` of a class, over what is told of
+    /// the files.
+    fn over(alloc: Global, area: MethodArea, main: u16, inputs: Inputs) -> Result<Machine, NoMemory>
+        requires main { IsSome (main_place (slice_get area.files main)) }
+        requires lines { KnowsLines area (channels_of inputs.channels) }
+        ensures files { IfOk result (λ machine. files_of machine ≡ area.files) }
+        ensures state { IfOk result (λ machine.
+            state_of machine ≡ start area.files main inputs) }
+        ensures steps { IfOk result (λ machine. steps_of machine ≡ 0) }
+    {
+        match begin(alloc, &area, main, inputs) {
+            Ok(running) => Ok(Machine {
+                alloc,
+                area,
+                running,
+                steps: 0,
+            }),
+            Err(error) => {
+                drop(area);
+                Err(error)
+            }
+        }
     }
 
     /// Runs one instruction.

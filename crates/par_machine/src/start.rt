@@ -64,9 +64,9 @@ pub(crate) fn begin(
         method: main_of(area, main),
         at: 0,
     };
+    let lines = Lines::of(alloc, inputs)?;
     let stack = first_frame(alloc, area, point)?;
     let statics = Statics::of(alloc, area.first_statics())?;
-    let lines = Lines::of(alloc, inputs)?;
     Ok(Running {
         stack,
         statics,
