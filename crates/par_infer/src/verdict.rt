@@ -46,7 +46,9 @@ fn note_body<F: KnownFacts>(
         × (findings.new ≡ first_of findings.old told)) }
 {
     let asked = checks_of(alloc, policies.table(), body)?;
-    note_failed(facts, policies, asked.as_slice(), numbers, sets, findings)
+    let noted = note_failed(facts, policies, asked.as_slice(), numbers, sets, findings);
+    drop(asked);
+    noted
 }
 
 // Notes those on bodies, each over its facts.
@@ -104,7 +106,7 @@ pub fn first_failed<F: KnownFacts>(
 {
     let mut policies = Policies::of(alloc, table);
     let mut findings = Findings::new();
-    note_bodies(
+    let noted = note_bodies(
         alloc,
         facts,
         &mut policies,
@@ -112,6 +114,10 @@ pub fn first_failed<F: KnownFacts>(
         numbers,
         sets,
         &mut findings,
-    )?;
-    Ok(findings.first())
+    );
+    drop(policies);
+    match noted {
+        Ok(()) => Ok(findings.first()),
+        Err(error) => Err(error),
+    }
 }

@@ -8,12 +8,12 @@ use Rattle.par_infer.specs.Judged.{AreAllFailed}
 use Rattle.par_infer.proofs.Failed.{judged}
 use Rattle.par_infer.proofs.verdict.first_failed.Goals as goal
 
-pub returns : goal.returns
-returns g c =
+pub returns-in-Ok : goal.returns-in-Ok
+returns-in-Ok g c =
     let bs = bodies c.args.bodies.now in
     let fs = map g.F.KnownFacts.facts c.args.facts.now in
     let σ = set_at c.args.sets.now in
-    let noted = c.in_ok-note_bodies.ensures in
+    let noted = rw c.in-Ok.is at c.note_bodies-noted.ensures in
     let are =
     subst (λ (t : Table). AreAllFailed t σ bs fs noted.0) c.of-policies.ensures noted.1 in
     let answer =
