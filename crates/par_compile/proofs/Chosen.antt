@@ -1,11 +1,31 @@
 -- Which of two files a class has.
-use Rattle.std.proofs.Common.{◌≡◌, ℕ, Bool, true, false, List, Option, Some, None, subst, sym}
+use Rattle.std.proofs.Common.{◌≡◌, ℕ, ◌<◌, ◌≤◌, Bool, true, false, List, length, Option, Some, None}
+use Rattle.std.proofs.Common.{subst, sym}
 use Rattle.std.specs.Prelude.{Result, Ok, Err, IfOk, MatchOption}
 use Rattle.par_base.specs.declared.memory.NoMemory.{NoMemory}
 use Rattle.par_typed.specs.declared.table.ClassInfo.{ClassInfo}
 use Rattle.par_typed.specs.declared.table.Table.{Table}
+use Rattle.par_pool.specs.declared.reader.TheConstants.{LONGEST_CLASS}
+use Rattle.par_class.specs.declared.file.ClassFile.{ClassFile}
+use Rattle.par_class.specs.Spelling.{Spells}
 use Rattle.par_compile_laws.specs.Members.{Member}
-use Rattle.par_compile.specs.Whole.{IsShortFile, IsLongFile, AreOwnBytes, IsFirstMade, Follows}
+use Rattle.par_compile_laws.specs.Files.{written}
+use Rattle.par_compile.specs.Whole.{IsOwnFile, IsShortFile, IsLongFile, AreOwnBytes}
+use Rattle.par_compile.specs.Whole.{IsFirstMade, Follows}
+
+-- a file of a class whose bytes are few enough, or are not
+pub long_or_short : (frames : Bool) (table : Table) (class : ClassInfo) (ms : List Member)
+    (file : ClassFile) → IsOwnFile frames table class ms file
+    → (made : Result (Option (List ℕ)) NoMemory)
+    → IfOk made (λ found. MatchOption found (LONGEST_CLASS < length (written file))
+    (λ bytes. Spells bytes file × (length bytes ≤ LONGEST_CLASS)))
+    → IfOk made (λ found. MatchOption found (IsLongFile frames table class ms)
+    (IsShortFile frames table class ms))
+long_or_short frames table class ms file is (Err e) h = tt
+long_or_short frames table class ms file is (Ok None) h =
+    record { file = file; is = is; long = h }
+long_or_short frames table class ms file is (Ok (Some bytes)) h =
+    record { file = file; is = is; spells = h.0; short = h.1 }
 
 module _ (table : Table) (class : ClassInfo) (ms : List Member)
     (makes : Bool → Result (Option (List ℕ)) NoMemory → Type 0)

@@ -15,6 +15,8 @@ use Rattle.par_class.specs.Spelling.{Spells}
 use Rattle.par_compile_laws.specs.Members.{Member, CLASS_ACCESS, above}
 use Rattle.par_compile_laws.specs.Constants.{IsConstant}
 use Rattle.par_compile_laws.specs.Files.{IsFieldOf, version, written}
+use Rattle.par_compile.specs.declared.class.Parts.{Parts}
+use Rattle.par_compile.specs.declared.draft.Draft.{Draft}
 use Rattle.par_compile.specs.Drafts.{IsPut}
 
 -- the file of a class that has these methods, with their frames or without them
@@ -33,6 +35,21 @@ pub record IsOwnFile (frames : Bool) (table : Table) (class : ClassInfo) (ms : L
   pub fields : AllZip (IsFieldOf table file.pool.entries) class.fields file.fields
   pub few_methods : length ms < 2 ^ 16
   pub methods : AllZip (IsPut frames file.pool.entries) ms file.methods
+  pub attributes : file.attributes ≡ []
+
+-- the file of these parts, with the pool and the methods of a draft
+pub record IsMadeOf (frames : Bool) (parts : Parts) (draft : Draft) (file : ClassFile)
+    : Type 0 where
+  pub minor : file.minor ≡ 0
+  pub major : file.major ≡ version frames
+  pub access : file.access ≡ CLASS_ACCESS
+  pub pool : file.pool.entries ≡ draft.pool
+  pub distinct : IsDistinct file.pool.entries
+  pub spelled : IsPool file.pool.entries
+  pub this_class : file.this_class ≡ parts.this_class
+  pub super_class : file.super_class ≡ parts.super_class
+  pub fields : file.fields ≡ parts.fields
+  pub methods : file.methods ≡ draft.methods
   pub attributes : file.attributes ≡ []
 
 -- the bytes spell such a file, and are few enough to be read again

@@ -1,7 +1,10 @@
 //! The bytes of a class's file.
 
-ghost use Rattle.std.specs.Prelude.{◌≡◌, false, true, IfOk, MatchOption};
+ghost use Rattle.std.specs.Prelude.{◌≡◌, ◌<◌, ◌≤◌, ℕ, false, true, length, IfOk, MatchOption};
+ghost use Rattle.std.specs.Prelude.{List as Items};
 ghost use Rattle.std.specs.List.{list_any};
+ghost use Rattle.par_class.specs.Spelling.{Spells};
+ghost use Rattle.par_compile_laws.specs.Files.{written};
 ghost use Rattle.par_erase.specs.Shown.{class_info, table_of};
 ghost use Rattle.par_compile.specs.Own.{AreNamed, IsReady, own_members};
 ghost use Rattle.par_compile.specs.Whole as whole;
@@ -10,7 +13,7 @@ ghost use Rattle.par_compile.specs.Whole.{IsShortFile, IsLongFile, AreOwnBytes, 
 use crate::class::class_file;
 use par_base::list::List;
 use par_base::memory::NoMemory;
-use par_class::{Attribute, LONGEST_CLASS, MethodFile, write_class};
+use par_class::{Attribute, ClassFile, LONGEST_CLASS, MethodFile, write_class};
 use par_erase::{Plain, PlainClass};
 use std::alloc::Global;
 
@@ -40,6 +43,25 @@ fn has_long_code(methods: &[MethodFile]) -> bool
     methods.iter().any(|method| has_long_attribute(method))
 }
 
+/// The bytes of a file; none where they are too many to be read again.
+fn short_bytes(alloc: Global, file: &ClassFile) -> Result<Option<List<u8>>, NoMemory>
+    requires { whole.has_long_code file.now.methods ≡ false →
+        (bytes : Items ℕ) × Spells bytes file.now }
+    ensures { IfOk result (λ found. MatchOption found
+        (LONGEST_CLASS < length (written file.now))
+        (λ bytes. Spells bytes file.now × (length bytes ≤ LONGEST_CLASS))) }
+{
+    let long = has_long_code(file.methods.as_slice());
+    if long {
+        return Ok(None);
+    }
+    let bytes = List::wrap(write_class(alloc, file)?);
+    if bytes.len() > LONGEST_CLASS {
+        return Ok(None);
+    }
+    Ok(Some(bytes))
+}
+
 /// The bytes of a file with frames or without them; none where they are too many to be read again.
 fn file_bytes(
     alloc: Global,
@@ -56,15 +78,9 @@ fn file_bytes(
         (own_members plain.now class.now))) }
 {
     let file = class_file(alloc, plain, class, frames)?;
-    let long = has_long_code(file.methods.as_slice());
-    if long {
-        return Ok(None);
-    }
-    let bytes = List::wrap(write_class(alloc, &file)?);
-    if bytes.len() > LONGEST_CLASS {
-        return Ok(None);
-    }
-    Ok(Some(bytes))
+    let bytes = short_bytes(alloc, &file);
+    drop(file);
+    bytes
 }
 
 /// What is made with frames, or without them where nothing is made with them.
