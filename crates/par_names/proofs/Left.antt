@@ -11,7 +11,7 @@ use Rattle.par_tree.proofs.Shown.{handler_is}
 use Rattle.par_names.specs.Stmts.{all_caught, caught}
 use Rattle.par_names.proofs.Noted.{more}
 
-dropped : {A : Type 0} (xs : List A) (i : ℕ) (x : A) → i < length xs → x ≡ get_or xs i x
+pub dropped : {A : Type 0} (xs : List A) (i : ℕ) (x : A) → i < length xs → x ≡ get_or xs i x
     → drop i xs ≡ x ∷ drop (i + 1) xs
 dropped xs i x within is =
     let next : suc i ≡ i + 1 = omega arith in

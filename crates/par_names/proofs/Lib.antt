@@ -7,5 +7,6 @@ pub mod Pushed
 pub mod ExprForms
 pub mod StmtForms
 pub mod Left
+pub mod Gone
 pub mod Places
 pub use Rattle.par_span_laws.proofs as par_span_laws
