@@ -118,7 +118,7 @@ pub fn check_policy(view: &View<'_>, policy: &PolicyExpr, findings: &mut Finding
 }
 
 /// Notes the broken rules of a policy, where one is written.
-#[tactic(auto, using(crate::proofs::Noted::note), unfolding(crate::specs::Policies::may_policy_faults))]
+#[tactic(auto, using(crate::proofs::Noted::note_written))]
 pub fn check_may_policy(view: &View<'_>, policy: &Option<PolicyExpr>, findings: &mut Findings)
     ensures { findings.new
         ≡ first_of findings.old (may_policy_faults (seen view.now) policy.now) }
