@@ -1,3 +1,4 @@
 pub mod Few
 pub mod Forms
+pub mod Others
 pub mod Numbers

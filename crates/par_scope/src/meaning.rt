@@ -251,7 +251,6 @@ fn is_value(home: &Home<'_>, locals: &Locals<'_>, name: &Name) -> bool
 
 /// What stands before a member, of this type. A simple name that is neither a local nor a field of
 /// the own class is a class.
-#[tactic(auto, using(par_tree::proofs::Shown::shows), unfolding(crate::specs::Meaning::receiver_of))]
 pub fn receiver_of(home: &Home<'_>, locals: &Locals<'_>, expr: &Expr, ty: Option<Ty>) -> Receiver
     ensures { result ≡ is.receiver_of (seen home.now) locals.now (shown expr.now) ty }
 {
@@ -263,17 +262,7 @@ pub fn receiver_of(home: &Home<'_>, locals: &Locals<'_>, expr: &Expr, ty: Option
                 Receiver::Class(home.names.class(name))
             }
         }
-        ExprKind::Int(_)
-        | ExprKind::True
-        | ExprKind::False
-        | ExprKind::Null
-        | ExprKind::This
-        | ExprKind::New(_)
-        | ExprKind::Field(_, _)
-        | ExprKind::Call(_, _, _)
-        | ExprKind::Neg(_)
-        | ExprKind::Not(_)
-        | ExprKind::Binary(_, _, _) => Receiver::Object(ty),
+        _ => Receiver::Object(ty),
     }
 }
 
@@ -315,7 +304,6 @@ pub fn type_of_name(home: &Home<'_>, locals: &Locals<'_>, name: &Name) -> Option
 }
 
 /// Whether the expression is never null.
-#[tactic(auto, using(par_tree::proofs::Shown::shows), unfolding(crate::specs::Meaning::sure))]
 pub fn sure(locals: &Locals<'_>, expr: &Expr) -> bool
     ensures { result ≡ is.sure locals.now (shown expr.now) }
 {
@@ -325,14 +313,6 @@ pub fn sure(locals: &Locals<'_>, expr: &Expr) -> bool
             None => false,
             Some(slot) => slot.notnull,
         },
-        ExprKind::Int(_)
-        | ExprKind::True
-        | ExprKind::False
-        | ExprKind::Null
-        | ExprKind::Field(_, _)
-        | ExprKind::Call(_, _, _)
-        | ExprKind::Neg(_)
-        | ExprKind::Not(_)
-        | ExprKind::Binary(_, _, _) => false,
+        _ => false,
     }
 }
