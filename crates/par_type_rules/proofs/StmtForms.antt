@@ -14,7 +14,9 @@ use Rattle.par_tree.specs.Plain.{Else, NoElse, Otherwise, Stas, End, Then, Catch
 use Rattle.par_tree.specs.Plain.{Handler, On}
 use Rattle.par_tree.specs.Plain as plain
 use Rattle.par_tree.specs.Shown.{does_at}
-use Rattle.par_tree.proofs.Shown.{braces_is, handler_is, doings}
+use Rattle.par_tree.proofs.Shown.{braces_is, handler_is, does_block, does_if, does_while, does_try}
+use Rattle.par_tree.proofs.Shown.{does_return, does_break, does_continue, does_throw, does_open}
+use Rattle.par_tree.proofs.Shown.{does_close, does_local, does_assign, does_call, does_when}
 use Rattle.par_refusals.specs.First.{when, broken}
 use Rattle.par_refusals.proofs.First.{firsts}
 use Rattle.par_completes.specs.Completes.{completes}
@@ -309,38 +311,33 @@ pub ruleset row_forms = (
 )
 
 -- each kind of statement
-pub ruleset found_in = (
-  declares_block,
-  declares_if,
-  declares_while,
-  declares_try,
-  declares_return,
-  declares_break,
-  declares_continue,
-  declares_throw,
-  declares_open,
-  declares_close,
-  declares_declare,
-  declares_assign,
-  declares_do,
-  declares_when,
-  stmt_faults_block,
-  stmt_faults_if,
-  stmt_faults_while,
-  stmt_faults_try,
-  stmt_faults_return,
-  stmt_faults_break,
-  stmt_faults_continue,
-  stmt_faults_throw,
-  stmt_faults_open,
-  stmt_faults_close,
-  stmt_faults_declare,
-  stmt_faults_assign,
-  stmt_faults_do,
-  stmt_faults_when,
-  doings,
-  firsts,
-)
+pub ruleset of_block = (declares_block, stmt_faults_block, does_block, firsts)
+
+pub ruleset of_if = (declares_if, stmt_faults_if, does_if, firsts)
+
+pub ruleset of_while = (declares_while, stmt_faults_while, does_while, firsts)
+
+pub ruleset of_try = (declares_try, stmt_faults_try, does_try, firsts)
+
+pub ruleset of_return = (declares_return, stmt_faults_return, does_return, firsts)
+
+pub ruleset of_break = (declares_break, stmt_faults_break, does_break, firsts)
+
+pub ruleset of_continue = (declares_continue, stmt_faults_continue, does_continue, firsts)
+
+pub ruleset of_throw = (declares_throw, stmt_faults_throw, does_throw, firsts)
+
+pub ruleset of_open = (declares_open, stmt_faults_open, does_open, firsts)
+
+pub ruleset of_close = (declares_close, stmt_faults_close, does_close, firsts)
+
+pub ruleset of_declare = (declares_declare, stmt_faults_declare, does_local, firsts)
+
+pub ruleset of_assign = (declares_assign, stmt_faults_assign, does_assign, firsts)
+
+pub ruleset of_do = (declares_do, stmt_faults_do, does_call, firsts)
+
+pub ruleset of_when = (declares_when, stmt_faults_when, does_when, firsts)
 
 longer : {X : Type 0} (xs old : List X) (x : X) → take (length old) xs ≡ old
     → take (length old) (xs ++ x ∷ []) ≡ old

@@ -54,6 +54,11 @@ abbrev pub home_of : Table → Names → ℕ → Option Ty → Home
 home_of table names class result =
     record { table = table; names = names; class = class; result = result }
 
+-- what breaks a rule behind the head of a method
+abbrev pub inner_faults : Home → Method → List Refusal
+inner_faults home m =
+    braces_faults home false (with_params home no_locals m.params) m.body ++ end_fault home m
+
 abbrev pub body_faults : Home → Method → List Refusal
 body_faults home m =
     result_fault home m.result ++ params_faults home m.params ++ throws_faults home m.throws

@@ -25,24 +25,10 @@ use par_tree::ident::Ident;
 /// The least number that is no int without a `-`.
 pub const TOO_LARGE: u32 = 2_147_483_648;
 
-#[tactic(auto, using(par_tree::proofs::Shown::shows), unfolding(crate::specs::Exprs::is_number))]
 fn is_number(expr: &Expr) -> bool
     ensures { result ≡ is.is_number (shown expr.now) }
 {
-    match &expr.kind {
-        ExprKind::Int(_) => true,
-        ExprKind::True
-        | ExprKind::False
-        | ExprKind::Null
-        | ExprKind::This
-        | ExprKind::New(_)
-        | ExprKind::Name(_)
-        | ExprKind::Field(_, _)
-        | ExprKind::Call(_, _, _)
-        | ExprKind::Neg(_)
-        | ExprKind::Not(_)
-        | ExprKind::Binary(_, _, _) => false,
-    }
+    matches!(&expr.kind, ExprKind::Int(_))
 }
 
 #[tactic(auto, using(crate::proofs::Forms::finds))]

@@ -4,6 +4,7 @@ ghost use Rattle.std.specs.Prelude.{◌≡◌, OnOk};
 ghost use Rattle.par_tree.specs.Shown.{method, methods, class_of};
 ghost use Rattle.par_refusals.specs.First.{first_of};
 ghost use Rattle.par_scope.specs.Home.{seen};
+ghost use Rattle.par_scope.specs.Locals.{no_locals};
 ghost use Rattle.par_type_rules.specs.Methods as is;
 
 use crate::fits::is_void;
@@ -84,6 +85,25 @@ fn check_result(home: &Home<'_>, ty: &Option<TypeTree>, findings: &mut Findings)
     }
 }
 
+// What stands in a body, before which no local is in scope.
+#[tactic(auto, using(crate::proofs::MethodForms::found_in))]
+fn check_within<'a>(
+    home: &Home<'_>,
+    locals: &mut Locals<'a>,
+    decl: &'a MethodDecl,
+    findings: &mut Findings,
+) -> Result<(), NoMemory>
+    requires { locals.old ≡ no_locals }
+    ensures { OnOk result (findings.new
+        ≡ first_of findings.old (is.inner_faults (seen home.now) (method decl.now))) }
+{
+    declare_params(home, locals, decl.params.as_slice())?;
+    check_block(home, false, locals, &decl.body, findings)?;
+    let ends = is_void(home.result) || !block_completes(&decl.body);
+    findings.expect(ends, 203, decl.id.at);
+    Ok(())
+}
+
 #[tactic(auto, using(crate::proofs::MethodForms::found_in))]
 fn check_body(
     alloc: Global,
@@ -98,11 +118,9 @@ fn check_body(
     check_params(home, decl.params.as_slice(), findings);
     check_throws(home, decl.throws.as_slice(), findings);
     let mut locals = Locals::new(alloc);
-    declare_params(home, &mut locals, decl.params.as_slice())?;
-    check_block(home, false, &mut locals, &decl.body, findings)?;
-    let ends = is_void(home.result) || !block_completes(&decl.body);
-    findings.expect(ends, 203, decl.id.at);
-    Ok(())
+    let checked = check_within(home, &mut locals, decl, findings);
+    drop(locals);
+    checked
 }
 
 #[tactic(auto, using(crate::proofs::MethodForms::found_in))]

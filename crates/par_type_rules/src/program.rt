@@ -53,9 +53,25 @@ fn check_decls(
     Ok(())
 }
 
+// The same by names that are looked up in an index.
+#[tactic(auto, using(par_refusals::proofs::First::firsts))]
+fn first_broken(
+    alloc: Global,
+    table: &Table,
+    names: &TableIndex<'_>,
+    program: &Program,
+) -> Result<Option<Refusal>, NoMemory>
+    ensures { IfOk result (λ first. first
+        ≡ first_of None (declarations_faults table.now names.now (source program.now))) }
+{
+    let mut findings = Findings::new();
+    let decls = program.decls.as_slice();
+    check_decls(alloc, table, names, decls, &mut findings)?;
+    Ok(findings.first())
+}
+
 /// The first broken rule on types of a program, whose table this is: the one at the least place,
 /// and there the least rule.
-#[tactic(auto, using(par_refusals::proofs::First::firsts))]
 pub fn check_bodies(
     alloc: Global,
     table: &Table,
@@ -66,13 +82,7 @@ pub fn check_bodies(
         first ≡ first_of None (type_faults table.now (source program.now))) }
 {
     let names = TableIndex::of(alloc, table)?;
-    let mut findings = Findings::new();
-    check_decls(
-        alloc,
-        table,
-        &names,
-        program.decls.as_slice(),
-        &mut findings,
-    )?;
-    Ok(findings.first())
+    let first = first_broken(alloc, table, &names, program);
+    drop(names);
+    first
 }

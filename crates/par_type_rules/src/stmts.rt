@@ -81,7 +81,6 @@ fn check_local<'a>(
     locals.declare(&decl.id.name, slot_of(home, decl))
 }
 
-#[tactic(auto, using(par_tree::proofs::Shown::shows), unfolding(crate::specs::Stmts::refuses_null))]
 fn refuses_null(locals: &Locals<'_>, target: &Expr) -> bool
     ensures { result ≡ is.refuses_null locals.now (shown target.now) }
 {
@@ -90,17 +89,7 @@ fn refuses_null(locals: &Locals<'_>, target: &Expr) -> bool
             None => false,
             Some(slot) => slot.notnull,
         },
-        ExprKind::Int(_)
-        | ExprKind::True
-        | ExprKind::False
-        | ExprKind::Null
-        | ExprKind::This
-        | ExprKind::New(_)
-        | ExprKind::Field(_, _)
-        | ExprKind::Call(_, _, _)
-        | ExprKind::Neg(_)
-        | ExprKind::Not(_)
-        | ExprKind::Binary(_, _, _) => false,
+        _ => false,
     }
 }
 
@@ -164,7 +153,6 @@ fn check_result(
 
 /// Notes the broken rules of a statement, and puts the local that it declares into scope.
 #[cycle(stmt)]
-#[tactic(auto, using(crate::proofs::StmtForms::found_in))]
 fn check_stmt<'a>(
     home: &Home<'_>,
     looped: bool,
@@ -179,29 +167,43 @@ fn check_stmt<'a>(
         locals.new ≡ is.declares (seen home.now) (does stmt.now) locals.old) }
 {
     match &stmt.kind {
-        StmtKind::Block(body) => check_block(home, looped, locals, body, findings)?,
+        StmtKind::Block(body) => check_block(home, looped, locals, body, findings),
         StmtKind::If(test, body, other) => {
             check_arm(home, looped, locals, body, test, findings)?;
-            check_else(home, looped, locals, other, findings)?;
+            check_else(home, looped, locals, other, findings)
         }
-        StmtKind::While(test, body) => check_arm(home, true, locals, body, test, findings)?,
+        StmtKind::While(test, body) => check_arm(home, true, locals, body, test, findings),
         StmtKind::Try(body, catches) => {
             check_block(home, looped, locals, body, findings)?;
-            check_catches(home, looped, locals, catches.as_slice(), findings)?;
+            check_catches(home, looped, locals, catches.as_slice(), findings)
         }
         StmtKind::When(_, body, other) => {
             check_block(home, looped, locals, body, findings)?;
-            check_may_block(home, looped, locals, other, findings)?;
+            check_may_block(home, looped, locals, other, findings)
         }
-        StmtKind::Local(decl) => check_local(home, locals, decl, findings)?,
-        StmtKind::Assign(target, value) => check_assigned(home, locals, target, value, findings),
-        StmtKind::Call(call) => check_called(home, locals, call, findings),
-        StmtKind::Return(value) => check_result(home, locals, value, stmt.at, findings),
-        StmtKind::Throw(class) => check_thrown(home, class, findings),
-        StmtKind::Break | StmtKind::Continue => findings.expect(looped, 205, stmt.at),
-        StmtKind::OpenLock(_) | StmtKind::CloseLock(_) => {}
+        StmtKind::Local(decl) => check_local(home, locals, decl, findings),
+        StmtKind::Assign(target, value) => {
+            check_assigned(home, locals, target, value, findings);
+            Ok(())
+        }
+        StmtKind::Call(call) => {
+            check_called(home, locals, call, findings);
+            Ok(())
+        }
+        StmtKind::Return(value) => {
+            check_result(home, locals, value, stmt.at, findings);
+            Ok(())
+        }
+        StmtKind::Throw(class) => {
+            check_thrown(home, class, findings);
+            Ok(())
+        }
+        StmtKind::Break | StmtKind::Continue => {
+            findings.expect(looped, 205, stmt.at);
+            Ok(())
+        }
+        StmtKind::OpenLock(_) | StmtKind::CloseLock(_) => Ok(()),
     }
-    Ok(())
 }
 
 /// Notes the broken rules of a block, and of the test before it.
