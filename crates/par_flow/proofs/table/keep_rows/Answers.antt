@@ -1,6 +1,8 @@
-use Rattle.std.proofs.Common.{◌<◌, false, length, refl, sym, subst, arith}
+use Rattle.std.proofs.Common.{◌<◌, ◌≤◌, false, length, refl, sym, subst, ◌∙◌, arith}
+use Rattle.std.proofs.lemmas.List.{take_all}
 use Rattle.par_envs.specs.Numbered.{envs}
-use Rattle.par_rounds.specs.par_ways.Seen.{IsRowWide}
+use Rattle.par_rounds.specs.par_ways.Seen.{IsRowWide, seen_facts}
+use Rattle.par_flow.specs.Table.{AllShow}
 use Rattle.par_flow.proofs.Rows.{all_more, facts_more, flags_more}
 use Rattle.par_flow.proofs.Used.{used_more}
 use Rattle.par_flow.proofs.table.keep_rows.Goals as goal
@@ -35,3 +37,24 @@ loop-place-preserved c =
           (wide c.loop-place.place c.index-facts-place.result c.loop-place-test.true))
           (c.loop-place.invariant.long n wide);
     }
+
+pub returns-clause-found : goal.returns-clause-found
+returns-clause-found c = c.loop-place.invariant.found
+
+pub returns-clause-facts : goal.returns-clause-facts
+returns-clause-facts c =
+    subst (λ fs. AllShow (envs c.loop-place.numbered.entries.items) c.loop-place.rows.items
+    (seen_facts fs)) (take_all c.loop-place.place c.args.facts.now c.loop-place-test.false)
+    c.loop-place.invariant.facts
+
+pub returns-clause-statements : goal.returns-clause-statements
+returns-clause-statements c =
+    let all : length c.args.statements.now ≤ c.loop-place.place =
+    let e = c.requires in let l = c.loop-place-test.false in omega (arith, e, l) in
+    c.loop-place.invariant.statements ∙ take_all c.loop-place.place c.args.statements.now all
+
+pub returns-clause-used : goal.returns-clause-used
+returns-clause-used c = c.loop-place.invariant.used
+
+pub returns-clause-long : goal.returns-clause-long
+returns-clause-long c = c.loop-place.invariant.long
