@@ -1,6 +1,6 @@
 -- The typed bodies of each form of declaration, and what is left of lists of them.
 use Rattle.std.proofs.Common.{◌≡◌, ℕ, ◌+◌, ◌<◌, ◌≤◌, List, [], ◌∷◌, ◌++◌, Some, None, refl}
-use Rattle.std.proofs.Common.{ap, length, get_or, drop}
+use Rattle.std.proofs.Common.{ap, sym, subst, length, get_or, drop}
 use Rattle.std.proofs.lemmas.List.{append_assoc, append-nil}
 use Rattle.par_tree.specs.declared.decl.ParamDecl.{ParamDecl}
 use Rattle.par_tree.specs.declared.decl.MethodDecl.{MethodDecl}
@@ -21,6 +21,7 @@ use Rattle.par_annotation_laws.specs.Frames.{Frame, with_local}
 use Rattle.par_annotation_laws.specs.Stmts.{Written}
 use Rattle.par_annotation_laws.specs.Bodies.{with_params, typed_method, typed_methods, typed_class}
 use Rattle.par_annotation_laws.specs.Bodies.{typed_declaration, typed_declarations}
+use Rattle.par_annotation.specs.Small.{IsSmallSource}
 
 pub params_none : (home : Home) (frame : Frame) → with_params home frame [] ≡ frame
 unfolding with_params
@@ -98,6 +99,13 @@ decls_left ds i d lt is = ap all_declared (left_more ds i d lt is)
 
 pub no_decls_left : (ds : List Decl) (i : ℕ) → length ds ≤ i → all_declared (drop i ds) ≡ []
 no_decls_left ds i le = ap all_declared (left_none ds i le)
+
+-- the declarations as they are read are as small
+pub small_as_read : (names n : Names) (ds es : List Decl) → n ≡ names → ds ≡ es
+    → IsSmallSource names (all_declared es) → IsSmallSource n (all_declared ds)
+small_as_read names n ds es same read small =
+    subst (λ (m : Names). IsSmallSource m (all_declared ds)) (sym same)
+    (subst (λ (xs : List Decl). IsSmallSource names (all_declared xs)) (sym read) small)
 
 pub ruleset typed_bodies = (
   params_none,

@@ -153,39 +153,71 @@ pub ruleset target_forms = (
   tree.shows,
 )
 
--- where an expression is told by its form
-pub ruleset dispatch_forms = (
+-- each form where an expression is told by it
+pub ruleset int_forms = (
   form.typed_exp_int,
+  form.of_nodes_int,
+  form.no_ints_int,
+  node.nodes_int,
+  type.type_of_int,
+  tree.shown_int,
+  typed.shown_int,
+)
+
+pub ruleset truth_forms = (
   form.typed_exp_true,
   form.typed_exp_false,
-  form.typed_exp_null,
-  form.typed_exp_this,
-  form.typed_exp_new,
-  form.typed_exp_binary,
-  form.of_nodes_int,
   form.of_nodes_true,
   form.of_nodes_false,
-  form.of_nodes_null,
-  form.of_nodes_this,
-  form.of_nodes_new,
-  form.of_nodes_name,
-  form.of_nodes_field,
-  form.of_nodes_call,
-  form.of_nodes_neg,
-  form.of_nodes_not,
-  form.of_nodes_binary,
-  form.no_ints_int,
-  form.no_ints_field,
-  form.no_ints_call,
-  form.no_ints_not,
-  form.no_ints_binary,
-  node.nodes_int,
   node.nodes_boolean,
+  type.type_of_true,
+  type.type_of_false,
+  tree.shown_true,
+  tree.shown_false,
+  typed.shown_bool,
+)
+
+pub ruleset null_forms = (
+  form.typed_exp_null,
+  form.of_nodes_null,
   node.nodes_null,
+  type.type_of_null,
+  tree.shown_null,
+  typed.shown_null,
+)
+
+pub ruleset this_forms = (
+  form.typed_exp_this,
+  form.of_nodes_this,
   node.nodes_this,
+  type.type_of_this,
+  tree.shown_this,
+  typed.shown_this,
+)
+
+pub ruleset new_forms = (
+  form.typed_exp_new,
+  form.of_nodes_new,
   node.nodes_new,
+  type.type_of_new,
+  tree.shown_new,
+)
+
+pub ruleset named_forms = (form.of_nodes_name, tree.shown_name)
+
+pub ruleset of_field_forms = (form.of_nodes_field, tree.shown_field)
+
+pub ruleset called_forms = (form.of_nodes_call, type.type_of_call, tree.shown_call)
+
+pub ruleset negated_forms = (form.of_nodes_neg, type.type_of_neg, tree.shown_neg)
+
+pub ruleset inverted_forms = (form.of_nodes_not, type.type_of_not, tree.shown_not)
+
+pub ruleset binary_forms = (
+  form.typed_exp_binary,
+  form.of_nodes_binary,
   node.nodes_binary,
-  type.types,
-  tree.shows,
-  typed.shows,
+  type.type_of_binary,
+  tree.shown_binary,
+  typed.shown_binary,
 )

@@ -6,4 +6,5 @@ pub mod StmtNodeForms
 pub mod StmtForms
 pub mod StmtFamilies
 pub mod Kept
+pub mod Literals
 pub mod BodyForms

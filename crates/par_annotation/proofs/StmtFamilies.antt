@@ -166,61 +166,88 @@ pub ruleset handler_forms = (
   tree.handler_is,
 )
 
--- where a statement is told by its form
-pub ruleset dispatch_forms = (
+-- each form where a statement is told by it
+pub ruleset told_block = (
   form.typed_sta_block,
-  form.typed_sta_return,
-  form.typed_sta_break,
-  form.typed_sta_continue,
-  form.typed_sta_throw,
-  form.typed_sta_open,
-  form.typed_sta_close,
-  form.typed_sta_assign,
-  form.typed_sta_do,
   form.behind_block,
-  form.behind_return,
-  form.behind_break,
-  form.behind_continue,
-  form.behind_throw,
-  form.behind_open,
-  form.behind_close,
-  form.behind_assign,
-  form.behind_do,
   form.locals_in_block,
-  form.locals_in_declare,
   form.stmt_nodes_block,
-  form.stmt_nodes_return,
-  form.stmt_nodes_break,
-  form.stmt_nodes_continue,
-  form.stmt_nodes_throw,
-  form.stmt_nodes_open,
-  form.stmt_nodes_close,
-  form.stmt_nodes_declare,
-  form.stmt_nodes_assign,
-  form.stmt_nodes_do,
   form.stmt_no_ints_block,
-  form.stmt_no_ints_return,
-  form.stmt_no_ints_declare,
-  form.stmt_no_ints_assign,
-  form.stmt_no_ints_do,
-  node.stmt_nodes_break,
-  node.stmt_nodes_continue,
-  node.stmt_nodes_throw,
-  node.stmt_nodes_open,
-  node.stmt_nodes_close,
   tree.does_block,
+)
+
+pub ruleset told_return = (
+  form.typed_sta_return,
+  form.behind_return,
+  form.stmt_nodes_return,
+  form.stmt_no_ints_return,
   tree.does_return,
+)
+
+pub ruleset told_break = (
+  form.typed_sta_break,
+  form.behind_break,
+  form.stmt_nodes_break,
+  node.stmt_nodes_break,
   tree.does_break,
-  tree.does_continue,
-  tree.does_throw,
-  tree.does_open,
-  tree.does_close,
-  tree.does_local,
-  tree.does_assign,
-  tree.does_call,
   typed.does_break,
+)
+
+pub ruleset told_continue = (
+  form.typed_sta_continue,
+  form.behind_continue,
+  form.stmt_nodes_continue,
+  node.stmt_nodes_continue,
+  tree.does_continue,
   typed.does_continue,
+)
+
+pub ruleset told_throw = (
+  form.typed_sta_throw,
+  form.behind_throw,
+  form.stmt_nodes_throw,
+  node.stmt_nodes_throw,
+  tree.does_throw,
   typed.does_throw,
+)
+
+pub ruleset told_open = (
+  form.typed_sta_open,
+  form.behind_open,
+  form.stmt_nodes_open,
+  node.stmt_nodes_open,
+  tree.does_open,
   typed.does_open,
+)
+
+pub ruleset told_close = (
+  form.typed_sta_close,
+  form.behind_close,
+  form.stmt_nodes_close,
+  node.stmt_nodes_close,
+  tree.does_close,
   typed.does_close,
+)
+
+pub ruleset told_local = (
+  form.locals_in_declare,
+  form.stmt_nodes_declare,
+  form.stmt_no_ints_declare,
+  tree.does_local,
+)
+
+pub ruleset told_assign = (
+  form.typed_sta_assign,
+  form.behind_assign,
+  form.stmt_nodes_assign,
+  form.stmt_no_ints_assign,
+  tree.does_assign,
+)
+
+pub ruleset told_call = (
+  form.typed_sta_do,
+  form.behind_do,
+  form.stmt_nodes_do,
+  form.stmt_no_ints_do,
+  tree.does_call,
 )

@@ -52,8 +52,31 @@ fn declare_params<'a>(
     Ok(())
 }
 
-// The typed body of a method, where it stands.
+// The typed body of a method, in a frame with no locals but `this`.
 #[tactic(auto, using(crate::proofs::BodyForms::typed_bodies))]
+fn type_within<'a>(
+    alloc: Global,
+    home: &Home<'_>,
+    numbering: &Numbering<'_>,
+    frame: &mut Frame<'a>,
+    decl: &'a MethodDecl,
+) -> Result<TBody, NoMemory>
+    requires empty { frame_seen frame.old ≡ is.no_frame decl.now.is_static }
+    requires small { IsSmall (tree.method decl.now) }
+    ensures { IfOk result (λ b. body b
+        ≡ is.typed_body (written_by numbering.now) (seen home.now) (tree.method decl.now)) }
+{
+    declare_params(home, frame, decl.params.as_slice())?;
+    let mut next = 0;
+    let body = type_block(alloc, home, numbering, frame, &mut next, &decl.body)?;
+    Ok(TBody {
+        class: home.class,
+        method: numbered(home.names.method(home.class, &decl.id.name)),
+        body,
+    })
+}
+
+// The typed body of a method, where it stands.
 fn type_body(
     alloc: Global,
     home: &Home<'_>,
@@ -65,14 +88,9 @@ fn type_body(
         ≡ is.typed_body (written_by numbering.now) (seen home.now) (tree.method decl.now)) }
 {
     let mut frame = Frame::new(alloc, decl.is_static);
-    declare_params(home, &mut frame, decl.params.as_slice())?;
-    let mut next = 0;
-    let body = type_block(alloc, home, numbering, &mut frame, &mut next, &decl.body)?;
-    Ok(TBody {
-        class: home.class,
-        method: numbered(home.names.method(home.class, &decl.id.name)),
-        body,
-    })
+    let body = type_within(alloc, home, numbering, &mut frame, decl);
+    drop(frame);
+    body
 }
 
 // The typed body of a method of the class of this number.

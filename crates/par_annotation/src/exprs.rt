@@ -37,23 +37,12 @@ use par_typed::expr::{TExpr, TExprKind};
 use par_typed::ty::Ty;
 use std::alloc::Global;
 
-#[tactic(auto, using(par_tree::proofs::Shown::shows), unfolding(par_annotation_laws::specs::Exprs::number_of))]
 fn number_of(expr: &Expr) -> Option<u32>
     ensures { result ≡ made.number_of (shown expr.now) }
 {
     match &expr.kind {
         ExprKind::Int(number) => Some(*number),
-        ExprKind::True
-        | ExprKind::False
-        | ExprKind::Null
-        | ExprKind::This
-        | ExprKind::New(_)
-        | ExprKind::Name(_)
-        | ExprKind::Field(_, _)
-        | ExprKind::Call(_, _, _)
-        | ExprKind::Neg(_)
-        | ExprKind::Not(_)
-        | ExprKind::Binary(_, _, _) => None,
+        _ => None,
     }
 }
 
@@ -159,7 +148,6 @@ fn operation(
 
 /// The typed expression, whose points begin at the next one.
 #[cycle(expr)]
-#[tactic(auto, using(crate::proofs::ExprFamilies::dispatch_forms))]
 pub(crate) fn type_expr(
     alloc: Global,
     home: &Home<'_>,

@@ -209,8 +209,8 @@ fn type_local<'a>(
         next.new ≤ next.old + 2 + 2 * tree_nodes.nodes (tree.local decl.now).value) }
 {
     let point = take_point(next);
-    let value = type_expr(alloc, home, frame, next, &decl.value)?;
     let policy = may_policy(alloc, numbering, &decl.policy)?;
+    let value = type_expr(alloc, home, frame, next, &decl.value)?;
     let number = frame.next;
     frame.declare(&decl.id.name, slot_of(home, decl), policy)?;
     let kind = TStmtKind::SetLocal(number, policy, value.expr);
@@ -226,7 +226,6 @@ fn thrown(home: &Home<'_>, class: &Ident) -> TStmtKind
 /// The typed statement, whose points begin at the next one. A local that it declares comes into
 /// scope.
 #[cycle(stmt)]
-#[tactic(auto, using(crate::proofs::StmtFamilies::dispatch_forms))]
 fn type_stmt<'a>(
     alloc: Global,
     home: &Home<'_>,

@@ -11,6 +11,11 @@ use Rattle.par_annotation.proofs.ExprForms.{some_nodes, first_none}
 use Rattle.par_annotation.proofs.ExprForms.{first_more}
 use Rattle.par_annotation.proofs.ExprForms.{args_none, args_some, call_ints}
 use Rattle.par_annotation.proofs.ExprFamilies.{part_nodes, part_ints, negation_forms}
+use Rattle.par_annotation.proofs.ExprFamilies.{int_forms, truth_forms, null_forms, this_forms}
+use Rattle.par_annotation.proofs.ExprFamilies.{new_forms, named_forms, of_field_forms}
+use Rattle.par_annotation.proofs.ExprFamilies.{called_forms, negated_forms, inverted_forms}
+use Rattle.par_annotation.proofs.ExprFamilies.{binary_forms, field_forms, inversion_forms}
+use Rattle.par_annotation.proofs.ExprFamilies.{receiver_forms, call_forms}
 use Rattle.par_annotation.proofs.ExprFamilies.{args_forms, call_made}
 use Rattle.par_annotation.proofs.exprs.+expr.Goals as goal
 
@@ -79,6 +84,212 @@ type_expr-returns-in_ok-on-in-Call-clause-made t c =
     c.take_point-point.ensures.counted c.in_ok-on-in-Call.ensures.called
     c.in_ok-on-in-Call.ensures.made)
     c.type_called.ensures.made
+
+pub type_expr-overflow_cast-number : goal.type_expr-overflow_cast-number
+type_expr-overflow_cast-number t c = grind (arith, int_forms)
+
+pub type_expr-type_name-requires-clause-room : goal.type_expr-type_name-requires-clause-room
+type_expr-type_name-requires-clause-room t c = grind (arith, named_forms)
+
+pub type_expr-returns-in-Int : goal.type_expr-returns-in-Int
+type_expr-returns-in-Int t c = record {
+  made = grind (arith, int_forms);
+  typed = grind (arith, int_forms);
+  counted = grind (arith, int_forms);
+  small = grind (arith, int_forms);
+}
+
+pub type_expr-returns-in-True : goal.type_expr-returns-in-True
+type_expr-returns-in-True t c = record {
+  made = grind (arith, truth_forms);
+  typed = grind (arith, truth_forms);
+  counted = grind (arith, truth_forms);
+  small = grind (arith, truth_forms);
+}
+
+pub type_expr-returns-in-False : goal.type_expr-returns-in-False
+type_expr-returns-in-False t c = record {
+  made = grind (arith, truth_forms);
+  typed = grind (arith, truth_forms);
+  counted = grind (arith, truth_forms);
+  small = grind (arith, truth_forms);
+}
+
+pub type_expr-returns-in-Null : goal.type_expr-returns-in-Null
+type_expr-returns-in-Null t c = record {
+  made = grind (arith, null_forms);
+  typed = grind (arith, null_forms);
+  counted = grind (arith, null_forms);
+  small = grind (arith, null_forms);
+}
+
+pub type_expr-returns-in-This : goal.type_expr-returns-in-This
+type_expr-returns-in-This t c = record {
+  made = grind (arith, this_forms);
+  typed = grind (arith, this_forms);
+  counted = grind (arith, this_forms);
+  small = grind (arith, this_forms);
+}
+
+pub type_expr-returns-in-New : goal.type_expr-returns-in-New
+type_expr-returns-in-New t c = record {
+  made = grind (arith, new_forms);
+  typed = grind (arith, new_forms);
+  counted = grind (arith, new_forms);
+  small = grind (arith, new_forms);
+}
+
+pub type_expr-returns-in-Name : goal.type_expr-returns-in-Name
+type_expr-returns-in-Name t c = record {
+  made = grind (arith, named_forms);
+  typed = grind (arith, named_forms);
+  counted = grind (arith, named_forms);
+  small = grind (arith, named_forms);
+}
+
+pub type_expr-returns-in-Field : goal.type_expr-returns-in-Field
+type_expr-returns-in-Field t c = record {
+  made = grind (arith, of_field_forms);
+  typed = grind (arith, of_field_forms);
+  counted = grind (arith, of_field_forms);
+  small = grind (arith, of_field_forms);
+}
+
+pub type_expr-returns-in-Neg : goal.type_expr-returns-in-Neg
+type_expr-returns-in-Neg t c = record {
+  made = grind (arith, negated_forms);
+  typed = grind (arith, negated_forms);
+  counted = grind (arith, negated_forms);
+  small = grind (arith, negated_forms);
+}
+
+pub type_expr-returns-in-Not : goal.type_expr-returns-in-Not
+type_expr-returns-in-Not t c = record {
+  made = grind (arith, inverted_forms);
+  typed = grind (arith, inverted_forms);
+  counted = grind (arith, inverted_forms);
+  small = grind (arith, inverted_forms);
+}
+
+pub type_expr-returns-in_ok-other-in-Binary : goal.type_expr-returns-in_ok-other-in-Binary
+type_expr-returns-in_ok-other-in-Binary t c = record {
+  made = grind (arith, binary_forms);
+  typed = grind (arith, binary_forms);
+  counted = grind (arith, binary_forms);
+  small = grind (arith, binary_forms);
+}
+
+pub type_expr-returns-in_ok-on-in-Call-clause-typed
+    : goal.type_expr-returns-in_ok-on-in-Call-clause-typed
+type_expr-returns-in_ok-on-in-Call-clause-typed t c = grind (arith, called_forms)
+
+pub type_expr-returns-in_ok-on-in-Call-clause-counted
+    : goal.type_expr-returns-in_ok-on-in-Call-clause-counted
+type_expr-returns-in_ok-on-in-Call-clause-counted t c = grind (arith, called_forms)
+
+pub type_expr-returns-in_ok-on-in-Call-clause-small
+    : goal.type_expr-returns-in_ok-on-in-Call-clause-small
+type_expr-returns-in_ok-on-in-Call-clause-small t c = grind (arith, called_forms)
+
+pub type_field-returns : goal.type_field-returns
+type_field-returns t c = record {
+  made = grind (arith, field_forms);
+  typed = grind (arith, field_forms);
+  counted = grind (arith, field_forms);
+  small = grind (arith, field_forms);
+}
+
+pub type_negation-returns-in-Some : goal.type_negation-returns-in-Some
+type_negation-returns-in-Some t c = record {
+  made = grind (arith, negation_forms);
+  typed = grind (arith, negation_forms);
+  counted = grind (arith, negation_forms);
+  small = grind (arith, negation_forms);
+}
+
+pub type_negation-returns-in_ok-of-in-None-2 : goal.type_negation-returns-in_ok-of-in-None-2
+type_negation-returns-in_ok-of-in-None-2 t c = record {
+  made = grind (arith, negation_forms);
+  typed = grind (arith, negation_forms);
+  counted = grind (arith, negation_forms);
+  small = grind (arith, negation_forms);
+}
+
+pub type_inversion-returns : goal.type_inversion-returns
+type_inversion-returns t c = record {
+  made = grind (arith, inversion_forms);
+  typed = grind (arith, inversion_forms);
+  counted = grind (arith, inversion_forms);
+  small = grind (arith, inversion_forms);
+}
+
+pub type_receiver-returns-in-None : goal.type_receiver-returns-in-None
+type_receiver-returns-in-None t c = record {
+  made = grind (arith, receiver_forms);
+  called = grind (arith, receiver_forms);
+  counted = grind (arith, receiver_forms);
+  small = grind (arith, receiver_forms);
+}
+
+pub type_receiver-returns-in_ok-found-in-Some : goal.type_receiver-returns-in_ok-found-in-Some
+type_receiver-returns-in_ok-found-in-Some t c = record {
+  made = grind (arith, receiver_forms);
+  called = grind (arith, receiver_forms);
+  counted = grind (arith, receiver_forms);
+  small = grind (arith, receiver_forms);
+}
+
+pub type_call-returns-in-Unknown : goal.type_call-returns-in-Unknown
+type_call-returns-in-Unknown t c = record {
+  made = grind (arith, call_forms);
+  counted = grind (arith, call_forms);
+  small = grind (arith, call_forms);
+}
+
+pub type_call-returns-in-Channel : goal.type_call-returns-in-Channel
+type_call-returns-in-Channel t c = record {
+  made = grind (arith, call_forms);
+  counted = grind (arith, call_forms);
+  small = grind (arith, call_forms);
+}
+
+pub type_call-returns-in_ok-args-in-Method : goal.type_call-returns-in_ok-args-in-Method
+type_call-returns-in_ok-args-in-Method t c = record {
+  made = grind (arith, call_forms);
+  counted = grind (arith, call_forms);
+  small = grind (arith, call_forms);
+}
+
+pub type_through-returns-in-None : goal.type_through-returns-in-None
+type_through-returns-in-None t c = record {
+  made = grind (arith, call_forms);
+  counted = grind (arith, call_forms);
+  small = grind (arith, call_forms);
+}
+
+pub type_through-returns-then-channel : goal.type_through-returns-then-channel
+type_through-returns-then-channel t c = record {
+  made = grind (arith, call_forms);
+  counted = grind (arith, call_forms);
+  small = grind (arith, call_forms);
+}
+
+pub type_through-returns-in_ok-value-in-Some-2 : goal.type_through-returns-in_ok-value-in-Some-2
+type_through-returns-in_ok-value-in-Some-2 t c = record {
+  made = grind (arith, call_forms);
+  counted = grind (arith, call_forms);
+  small = grind (arith, call_forms);
+}
+
+pub type_args-returns-clause-counted : goal.type_args-returns-clause-counted
+type_args-returns-clause-counted t c = grind (arith, args_forms)
+
+pub type_first-returns-in-empty-clause-counted : goal.type_first-returns-in-empty-clause-counted
+type_first-returns-in-empty-clause-counted t c = grind (arith, args_forms)
+
+pub type_first-returns-in_ok-found-in-len1-up-clause-counted
+    : goal.type_first-returns-in_ok-found-in-len1-up-clause-counted
+type_first-returns-in_ok-found-in-len1-up-clause-counted t c = grind (arith, args_forms)
 
 pub type_negation-type_expr-requires : goal.type_negation-type_expr-requires
 type_negation-type_expr-requires t c =

@@ -10,7 +10,9 @@ use Rattle.par_annotation.specs.Numbers.{written_by}
 use Rattle.par_annotation.proofs.StmtForms.{some_stmt_nodes}
 use Rattle.par_annotation.proofs.StmtForms.{some_braces_nodes}
 use Rattle.par_annotation.proofs.StmtFamilies.{if_forms, while_forms, try_forms, when_forms}
-use Rattle.par_annotation.proofs.StmtFamilies.{part_ints, dispatch_forms, else_forms}
+use Rattle.par_annotation.proofs.StmtFamilies.{part_ints, else_forms, told_block, told_return}
+use Rattle.par_annotation.proofs.StmtFamilies.{told_break, told_continue, told_throw, told_open}
+use Rattle.par_annotation.proofs.StmtFamilies.{told_close, told_local, told_assign, told_call}
 use Rattle.par_annotation.proofs.StmtFamilies.{may_block_forms, block_forms, row_forms}
 use Rattle.par_annotation.proofs.StmtFamilies.{catches_forms, handler_forms}
 use Rattle.par_annotation.proofs.Kept.{behind_keeps, begin_keeps, left}
@@ -19,7 +21,7 @@ use Rattle.par_annotation.proofs.stmts.+stmt.Goals as goal
 pub type_stmt-type_block-requires : goal.type_stmt-type_block-requires
 type_stmt-type_block-requires t c = (
   search (rules, the_lemmas),
-  (grind (arith, dispatch_forms), (grind (arith, dispatch_forms), grind (arith, dispatch_forms))),
+  (grind (arith, told_block), (grind (arith, told_block), grind (arith, told_block))),
 )
 
 pub type_if-type_expr-requires-clause-ints : goal.type_if-type_expr-requires-clause-ints
@@ -112,6 +114,266 @@ type_handler-type_block-requires t c = (
   search (rules, the_lemmas),
   (grind (arith, handler_forms), (grind (arith, handler_forms), grind (arith, handler_forms))),
 )
+
+pub type_stmt-returns-in-If : goal.type_stmt-returns-in-If
+type_stmt-returns-in-If t c = record {
+  made = c.type_if.ensures.made;
+  behind = c.type_if.ensures.behind;
+  counted = c.type_if.ensures.counted;
+  small = c.type_if.ensures.small;
+}
+
+pub type_stmt-returns-in-While : goal.type_stmt-returns-in-While
+type_stmt-returns-in-While t c = record {
+  made = c.type_while.ensures.made;
+  behind = c.type_while.ensures.behind;
+  counted = c.type_while.ensures.counted;
+  small = c.type_while.ensures.small;
+}
+
+pub type_stmt-returns-in-Try : goal.type_stmt-returns-in-Try
+type_stmt-returns-in-Try t c = record {
+  made = c.type_try.ensures.made;
+  behind = c.type_try.ensures.behind;
+  counted = c.type_try.ensures.counted;
+  small = c.type_try.ensures.small;
+}
+
+pub type_stmt-returns-in-When : goal.type_stmt-returns-in-When
+type_stmt-returns-in-When t c = record {
+  made = c.type_when.ensures.made;
+  behind = c.type_when.ensures.behind;
+  counted = c.type_when.ensures.counted;
+  small = c.type_when.ensures.small;
+}
+
+pub type_stmt-returns-in-Block : goal.type_stmt-returns-in-Block
+type_stmt-returns-in-Block t c = record {
+  made = grind (arith, told_block);
+  behind = grind (arith, told_block);
+  counted = grind (arith, told_block);
+  small = grind (arith, told_block);
+}
+
+pub type_stmt-returns-in-Return : goal.type_stmt-returns-in-Return
+type_stmt-returns-in-Return t c = record {
+  made = grind (arith, told_return);
+  behind = grind (arith, told_return);
+  counted = grind (arith, told_return);
+  small = grind (arith, told_return);
+}
+
+pub type_stmt-returns-in-Break : goal.type_stmt-returns-in-Break
+type_stmt-returns-in-Break t c = record {
+  made = grind (arith, told_break);
+  behind = grind (arith, told_break);
+  counted = grind (arith, told_break);
+  small = grind (arith, told_break);
+}
+
+pub type_stmt-returns-in-Continue : goal.type_stmt-returns-in-Continue
+type_stmt-returns-in-Continue t c = record {
+  made = grind (arith, told_continue);
+  behind = grind (arith, told_continue);
+  counted = grind (arith, told_continue);
+  small = grind (arith, told_continue);
+}
+
+pub type_stmt-returns-in-Throw : goal.type_stmt-returns-in-Throw
+type_stmt-returns-in-Throw t c = record {
+  made = grind (arith, told_throw);
+  behind = grind (arith, told_throw);
+  counted = grind (arith, told_throw);
+  small = grind (arith, told_throw);
+}
+
+pub type_stmt-returns-in-OpenLock : goal.type_stmt-returns-in-OpenLock
+type_stmt-returns-in-OpenLock t c = record {
+  made = grind (arith, told_open);
+  behind = grind (arith, told_open);
+  counted = grind (arith, told_open);
+  small = grind (arith, told_open);
+}
+
+pub type_stmt-returns-in-CloseLock : goal.type_stmt-returns-in-CloseLock
+type_stmt-returns-in-CloseLock t c = record {
+  made = grind (arith, told_close);
+  behind = grind (arith, told_close);
+  counted = grind (arith, told_close);
+  small = grind (arith, told_close);
+}
+
+pub type_stmt-returns-in-Local : goal.type_stmt-returns-in-Local
+type_stmt-returns-in-Local t c = record {
+  made = grind (arith, told_local);
+  behind = grind (arith, told_local);
+  counted = grind (arith, told_local);
+  small = grind (arith, told_local);
+}
+
+pub type_stmt-returns-in-Assign : goal.type_stmt-returns-in-Assign
+type_stmt-returns-in-Assign t c = record {
+  made = grind (arith, told_assign);
+  behind = grind (arith, told_assign);
+  counted = grind (arith, told_assign);
+  small = grind (arith, told_assign);
+}
+
+pub type_stmt-returns-in-Call : goal.type_stmt-returns-in-Call
+type_stmt-returns-in-Call t c = record {
+  made = grind (arith, told_call);
+  behind = grind (arith, told_call);
+  counted = grind (arith, told_call);
+  small = grind (arith, told_call);
+}
+
+pub type_stmt-type_return-requires-clause-room : goal.type_stmt-type_return-requires-clause-room
+type_stmt-type_return-requires-clause-room t c = grind (arith, told_return)
+
+pub type_stmt-type_return-requires-clause-ints : goal.type_stmt-type_return-requires-clause-ints
+type_stmt-type_return-requires-clause-ints t c = grind (arith, told_return)
+
+pub type_stmt-single-requires : goal.type_stmt-single-requires
+type_stmt-single-requires t c = grind (arith, told_break)
+
+pub type_stmt-single-requires-in-Continue : goal.type_stmt-single-requires-in-Continue
+type_stmt-single-requires-in-Continue t c = grind (arith, told_continue)
+
+pub type_stmt-single-requires-in-Throw : goal.type_stmt-single-requires-in-Throw
+type_stmt-single-requires-in-Throw t c = grind (arith, told_throw)
+
+pub type_stmt-single-requires-in-OpenLock : goal.type_stmt-single-requires-in-OpenLock
+type_stmt-single-requires-in-OpenLock t c = grind (arith, told_open)
+
+pub type_stmt-single-requires-in-CloseLock : goal.type_stmt-single-requires-in-CloseLock
+type_stmt-single-requires-in-CloseLock t c = grind (arith, told_close)
+
+pub type_stmt-type_local-requires-clause-room : goal.type_stmt-type_local-requires-clause-room
+type_stmt-type_local-requires-clause-room t c = grind (arith, told_local)
+
+pub type_stmt-type_local-requires-clause-locals : goal.type_stmt-type_local-requires-clause-locals
+type_stmt-type_local-requires-clause-locals t c = grind (arith, told_local)
+
+pub type_stmt-type_local-requires-clause-ints : goal.type_stmt-type_local-requires-clause-ints
+type_stmt-type_local-requires-clause-ints t c = grind (arith, told_local)
+
+pub type_stmt-type_assign-requires-clause-room : goal.type_stmt-type_assign-requires-clause-room
+type_stmt-type_assign-requires-clause-room t c = grind (arith, told_assign)
+
+pub type_stmt-type_assign-requires-clause-ints : goal.type_stmt-type_assign-requires-clause-ints
+type_stmt-type_assign-requires-clause-ints t c = grind (arith, told_assign)
+
+pub type_stmt-type_eval-requires-clause-room : goal.type_stmt-type_eval-requires-clause-room
+type_stmt-type_eval-requires-clause-room t c = grind (arith, told_call)
+
+pub type_stmt-type_eval-requires-clause-ints : goal.type_stmt-type_eval-requires-clause-ints
+type_stmt-type_eval-requires-clause-ints t c = grind (arith, told_call)
+
+pub type_if-returns : goal.type_if-returns
+type_if-returns t c = record {
+  made = grind (arith, if_forms);
+  behind = grind (arith, if_forms);
+  counted = grind (arith, if_forms);
+  small = grind (arith, if_forms);
+}
+
+pub type_while-returns : goal.type_while-returns
+type_while-returns t c = record {
+  made = grind (arith, while_forms);
+  behind = grind (arith, while_forms);
+  counted = grind (arith, while_forms);
+  small = grind (arith, while_forms);
+}
+
+pub type_try-returns : goal.type_try-returns
+type_try-returns t c = record {
+  made = grind (arith, try_forms);
+  behind = grind (arith, try_forms);
+  counted = grind (arith, try_forms);
+  small = grind (arith, try_forms);
+}
+
+pub type_when-returns : goal.type_when-returns
+type_when-returns t c = record {
+  made = grind (arith, when_forms);
+  behind = grind (arith, when_forms);
+  counted = grind (arith, when_forms);
+  small = grind (arith, when_forms);
+}
+
+pub type_if-type_expr-requires-clause-room : goal.type_if-type_expr-requires-clause-room
+type_if-type_expr-requires-clause-room t c = grind (arith, if_forms)
+
+pub type_while-type_expr-requires-clause-room : goal.type_while-type_expr-requires-clause-room
+type_while-type_expr-requires-clause-room t c = grind (arith, while_forms)
+
+pub type_else-returns-in-None : goal.type_else-returns-in-None
+type_else-returns-in-None t c = record {
+  made = grind (arith, else_forms);
+  behind = grind (arith, else_forms);
+  counted = grind (arith, else_forms);
+  small = grind (arith, else_forms);
+}
+
+pub type_else-returns-in_ok-made-in-Some-2-clause-made
+    : goal.type_else-returns-in_ok-made-in-Some-2-clause-made
+type_else-returns-in_ok-made-in-Some-2-clause-made t c = grind (arith, else_forms)
+
+pub type_else-returns-in_ok-made-in-Some-2-clause-counted
+    : goal.type_else-returns-in_ok-made-in-Some-2-clause-counted
+type_else-returns-in_ok-made-in-Some-2-clause-counted t c = grind (arith, else_forms)
+
+pub type_else-returns-in_ok-made-in-Some-2-clause-small
+    : goal.type_else-returns-in_ok-made-in-Some-2-clause-small
+type_else-returns-in_ok-made-in-Some-2-clause-small t c = grind (arith, else_forms)
+
+pub type_may_block-returns-in-None : goal.type_may_block-returns-in-None
+type_may_block-returns-in-None t c = record {
+  made = grind (arith, may_block_forms);
+  behind = grind (arith, may_block_forms);
+  counted = grind (arith, may_block_forms);
+  small = grind (arith, may_block_forms);
+}
+
+pub type_may_block-returns-in_ok-made-in-Some-2 : goal.type_may_block-returns-in_ok-made-in-Some-2
+type_may_block-returns-in_ok-made-in-Some-2 t c = record {
+  made = grind (arith, may_block_forms);
+  behind = grind (arith, may_block_forms);
+  counted = grind (arith, may_block_forms);
+  small = grind (arith, may_block_forms);
+}
+
+pub type_block-returns-clause-made : goal.type_block-returns-clause-made
+type_block-returns-clause-made t c = grind (arith, block_forms)
+
+pub type_block-returns-clause-counted : goal.type_block-returns-clause-counted
+type_block-returns-clause-counted t c = grind (arith, block_forms)
+
+pub type_block-returns-clause-small : goal.type_block-returns-clause-small
+type_block-returns-clause-small t c = grind (arith, block_forms)
+
+pub type_handler-returns : goal.type_handler-returns
+type_handler-returns t c = record {
+  made = grind (arith, handler_forms);
+  behind = grind (arith, handler_forms);
+  counted = grind (arith, handler_forms);
+  small = grind (arith, handler_forms);
+}
+
+pub type_stmts-returns-clause-counted : goal.type_stmts-returns-clause-counted
+type_stmts-returns-clause-counted t c = grind (arith, row_forms)
+
+pub type_catches-returns-clause-counted : goal.type_catches-returns-clause-counted
+type_catches-returns-clause-counted t c = grind (arith, catches_forms)
+
+pub type_catches-loop-catch-init : goal.type_catches-loop-catch-init
+type_catches-loop-catch-init t c = record {
+  made = grind (arith, catches_forms);
+  counted = grind (arith, catches_forms);
+  small = grind (arith, catches_forms);
+  ints = grind (arith, catches_forms);
+  behind = grind (arith, catches_forms);
+}
 
 pub type_block-overflow_add-next : goal.type_block-overflow_add-next
 type_block-overflow_add-next t c =
