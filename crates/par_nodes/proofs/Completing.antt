@@ -55,7 +55,7 @@ or_assoc : (a b c : Bool) → ((a || b) || c) ≡ (a || (b || c))
 or_assoc true b c = refl
 or_assoc false b c = refl
 
-cans_push : (parts : List (List code.Kind)) (js : List code.Kind) (fs : List (Kind → Bool))
+pub cans_push : (parts : List (List code.Kind)) (js : List code.Kind) (fs : List (Kind → Bool))
     → cans (parts ++ js ∷ []) fs ≡ among js ∷ cans parts fs
 cans_push [] js fs = refl
 cans_push (x ∷ parts) js fs = cans_push parts js (among x ∷ fs)
@@ -358,17 +358,6 @@ held j f e = fun_ext (λ k. by_case k (same j k) refl) where
   by_case k true h =
       let g : f k ≡ true = ap f (sym (same_true j k h)) ∙ e in g ∙ sym (ap (λ b. b || same j k) g)
   by_case k false h = sym (ap (λ b. f k || b) h ∙ or_false (f k))
-
--- a part's completions in front of those behind it
-pub boxed_told : (b : Box tree_node.Node Global) (q : Box tree.Rules Global)
-    (old new : List (List code.Kind)) (js : List code.Kind) (n : tree_node.Node) (m : tree.Rules)
-    → cans old [] ≡ parts_can (seen_rules m) → among js ≡ can (seen_node n) → new ≡ old ++ js ∷ []
-    → b.value ≡ n → q.value ≡ m
-    → cans new [] ≡ can (seen_node b.value) ∷ parts_can (seen_rules q.value)
-boxed_told b q old new js n m h k g d v =
-    ap (λ l. cans l []) g ∙ cans_push old js [] ∙ ap (λ f. f ∷ cans old [])
-    (k ∙ sym (ap (λ y. can (seen_node y)) d))
-    ∙ ap (λ fs. can (seen_node b.value) ∷ fs) (h ∙ sym (ap (λ y. parts_can (seen_rules y)) v))
 
 -- the parts behind a rule that has none
 pub leaves_told : (rs : tree.Rules) (o : Origin) (j : code.Kind) (q : Box tree.Rules Global)

@@ -4,3 +4,4 @@ pub mod Completing
 pub mod Branches
 pub mod Statements
 pub mod Expressions
+pub mod Literals

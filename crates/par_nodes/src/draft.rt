@@ -21,14 +21,37 @@ pub struct Known<'a> {
 }
 
 /// Rules with the completions of their parts, of which the first comes last.
-#[derive(Drop)]
 pub struct Draft<'a> {
     pub rules: Rules<'a>,
     pub found: Vec<Kinds>,
     ghost told: { cans found.items [] ≡ parts_can (seen_rules rules) },
 }
 
+// By hand: each function that owns a draft then drops it by one call.
+impl<'a> Drop for Draft<'a> {
+    fn drop(self) {
+        let Draft { rules: _, found: _ } = self;
+    }
+}
+
+/// Rules in the box in which they stand behind another rule, with the completions of their parts.
+#[derive(Drop)]
+pub struct Behind<'a> {
+    pub rules: Box<Rules<'a>>,
+    pub found: Vec<Kinds>,
+    ghost told: { cans found.items [] ≡ parts_can (seen_rules rules.value) },
+}
+
 impl<'a> Draft<'a> {
+    /// The rules in a box.
+    pub fn boxed(self, alloc: Global) -> Result<Behind<'a>, NoMemory>
+        ensures { IfOk result (λ b. b.rules.value ≡ self.entry.rules) }
+    {
+        let Draft { rules, found } = self;
+        let rules = Box::new(alloc, rules)?;
+        Ok(Behind { rules, found })
+    }
+
     /// The node of these rules.
     #[tactic(auto, using(crate::proofs::Completing::node_step))]
     pub fn node(self, alloc: Global, point: u32) -> Result<Known<'a>, NoMemory>

@@ -24,25 +24,13 @@ const ARITHMETIC: u16 = 0;
 
 const NULL_POINTER: u16 = 1;
 
-#[tactic(auto, using(par_typed::proofs::Shown::shows))]
+#[tactic(auto, using(par_typed::proofs::Shown::shown_int))]
 fn is_sure(e: &TExpr) -> bool
     ensures { result ≡ body.is_sure (shown e.now) }
 {
     match &e.kind {
         TExprKind::Int(n) => *n != 0,
-        TExprKind::Bool(_)
-        | TExprKind::Null
-        | TExprKind::This
-        | TExprKind::New(_)
-        | TExprKind::Local(_)
-        | TExprKind::Static(_, _)
-        | TExprKind::Field(_, _, _)
-        | TExprKind::Input(_, _)
-        | TExprKind::Output(_, _, _)
-        | TExprKind::Call(_, _, _, _)
-        | TExprKind::Neg(_)
-        | TExprKind::Not(_)
-        | TExprKind::Binary(_, _, _) => false,
+        _ => false,
     }
 }
 

@@ -8,7 +8,7 @@ ghost use Rattle.par_nodes.specs.Possible.{cans, parts_can};
 ghost use Rattle.par_nodes.specs.Seen.{seen_absorber, seen_kind, seen_node, seen_origin};
 ghost use Rattle.par_nodes.specs.Seen.{seen_rules, seen_worth};
 
-use crate::draft::{Draft, Known};
+use crate::draft::{Behind, Draft, Known};
 use crate::kinds::Kinds;
 use crate::rule::{Absorber, Kind, Locks, Node, Origin, Rules, Start, Worth};
 use par_base::memory::NoMemory;
@@ -65,15 +65,19 @@ struct Boxes<'a> {
         ∷ parts_can (seen_rules more.value) },
 }
 
+#[tactic(auto, using(crate::proofs::Completing::cans_push))]
 fn boxed<'a>(alloc: Global, part: Known<'a>, more: Draft<'a>) -> Result<Boxes<'a>, NoMemory>
     ensures { IfOk result (λ b. (b.node.value ≡ part.entry.node.value)
         × (b.more.value ≡ more.entry.rules)) }
 {
     let Known { node, kinds } = part;
-    let Draft { rules, mut found } = more;
+    let Behind { rules, mut found } = more.boxed(alloc)?;
     found.push(kinds)?;
-    let more = Box::new(alloc, rules)?;
-    Ok(Boxes { node, more, found })
+    Ok(Boxes {
+        node,
+        more: rules,
+        found,
+    })
 }
 
 /// A part that the way enters.
@@ -127,10 +131,9 @@ pub fn heads<'a>(alloc: Global, from: Origin<'a>, more: Draft<'a>) -> Result<Dra
     ensures { IfOk result (λ r. seen_rules r.rules
         ≡ plain.Heads (seen_origin from.entry) (seen_rules more.entry.rules)) }
 {
-    let Draft { rules, found } = more;
-    let more = Box::new(alloc, rules)?;
+    let Behind { rules, found } = more.boxed(alloc)?;
     Ok(Draft {
-        rules: Rules::Heads(from, more),
+        rules: Rules::Heads(from, rules),
         found,
     })
 }
@@ -146,10 +149,9 @@ pub fn leaves<'a>(
     ensures { IfOk result (λ r. seen_rules r.rules ≡ plain.Leaves (seen_origin from.entry)
         (seen_kind kind) (seen_rules more.entry.rules)) }
 {
-    let Draft { rules, found } = more;
-    let more = Box::new(alloc, rules)?;
+    let Behind { rules, found } = more.boxed(alloc)?;
     Ok(Draft {
-        rules: Rules::Leaves(from, kind, more),
+        rules: Rules::Leaves(from, kind, rules),
         found,
     })
 }
@@ -212,10 +214,9 @@ pub fn worths<'a>(alloc: Global, worth: Worth, more: Draft<'a>) -> Result<Draft<
     ensures { IfOk result (λ r. seen_rules r.rules
         ≡ plain.Worths (seen_worth worth) (seen_rules more.entry.rules)) }
 {
-    let Draft { rules, found } = more;
-    let more = Box::new(alloc, rules)?;
+    let Behind { rules, found } = more.boxed(alloc)?;
     Ok(Draft {
-        rules: Rules::Worths(worth, more),
+        rules: Rules::Worths(worth, rules),
         found,
     })
 }

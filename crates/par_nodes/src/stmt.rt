@@ -45,25 +45,13 @@ const CONTINUED: Origin<'static> = Origin {
 };
 
 /// The test of a loop that is left by `break` alone.
-#[tactic(auto, using(par_typed::proofs::Shown::shows))]
+#[tactic(auto, using(par_typed::proofs::Shown::shown_bool))]
 pub fn is_forever(e: &TExpr) -> bool
     ensures { result ≡ body.is_forever (shown e.now) }
 {
     match &e.kind {
         TExprKind::Bool(value) => *value,
-        TExprKind::Int(_)
-        | TExprKind::Null
-        | TExprKind::This
-        | TExprKind::New(_)
-        | TExprKind::Local(_)
-        | TExprKind::Static(_, _)
-        | TExprKind::Field(_, _, _)
-        | TExprKind::Input(_, _)
-        | TExprKind::Output(_, _, _)
-        | TExprKind::Call(_, _, _, _)
-        | TExprKind::Neg(_)
-        | TExprKind::Not(_)
-        | TExprKind::Binary(_, _, _) => false,
+        _ => false,
     }
 }
 
@@ -296,22 +284,6 @@ pub fn held(lock: u16, policy: u16) -> Origin<'static>
     }
 }
 
-// A block of which some exceptions are caught.
-#[inline(never)]
-fn guarded<'a>(
-    alloc: Global,
-    clauses: &[TCatch],
-    block: Known<'a>,
-    handled: Draft<'a>,
-) -> Result<Draft<'a>, NoMemory>
-    ensures { IfOk result (λ r. seen_rules r.rules
-        ≡ plain.Part plain.Entry (kinds.Catches (body.caught (all_catch clauses.now)))
-        (seen_node block.entry.node.value) (seen_rules handled.entry.rules)) }
-{
-    let classes = caught(alloc, clauses)?;
-    make::part(alloc, ENTRY, Absorber::Catches(classes), block, handled)
-}
-
 // A statement that is entered from there, before what stands behind it.
 #[cycle(sta)]
 #[inline(never)]
@@ -409,15 +381,17 @@ fn catches<'a>(
     Ok(rules)
 }
 
-// A `try`, whose block is given.
+// A `try`, whose block and whose caught classes are given.
 #[cycle(sta)]
 #[inline(never)]
 fn tries<'a>(
     alloc: Global,
     table: &'a Table,
     clauses: &[TCatch],
+    classes: List<u16>,
     block: Known<'a>,
 ) -> Result<Draft<'a>, NoMemory>
+    requires { classes ≡ body.caught (all_catch clauses.now) }
     ensures { IfOk result (λ r. seen_rules r.rules
         ≡ plain.Part plain.Entry (kinds.Catches (body.caught (all_catch clauses.now)))
         (seen_node block.entry.node.value) (plain.goes_on body.past
@@ -425,7 +399,7 @@ fn tries<'a>(
         (all_catch clauses.now) 0))) }
 {
     let handled = catches(alloc, table, clauses, &block)?;
-    guarded(alloc, clauses, block, handled)
+    make::part(alloc, ENTRY, Absorber::Catches(classes), block, handled)
 }
 
 // Behind the first branch the way goes on, and what stands behind `else` follows.
@@ -514,8 +488,10 @@ fn rules_of<'a>(alloc: Global, table: &'a Table, stmt: &TStmt) -> Result<Draft<'
         }
         TStmtKind::While(test, block) => loops(alloc, table, block, test),
         TStmtKind::Try(block, clauses) => {
+            let clauses = clauses.as_slice();
+            let classes = caught(alloc, clauses)?;
             let node = sta(alloc, table, block)?;
-            tries(alloc, table, clauses.as_slice(), node)
+            tries(alloc, table, clauses, classes, node)
         }
         TStmtKind::Return(value) => returns(alloc, table, value),
         TStmtKind::Break => Ok(make::completes(alloc, ENTRY, Kind::Break)),

@@ -1,11 +1,13 @@
-use Rattle.std.proofs.Common.{rules, refl, ap, ◌∙◌, drop, length}
+use Rattle.std.proofs.Common.{rules, arith, refl, ap, ◌∙◌, drop, length}
 use Rattle.std.proofs.lemmas.Result.{IfOk-weaker}
 use Rattle.par_flow_laws.specs.Declares.{declares}
 use Rattle.par_flow_laws.specs.Kinds.{Next}
 use Rattle.par_flow_laws.specs.Rules.{Entry, Part}
 use Rattle.par_nodes.specs.Seen.{seen_rules, seen_node, seen_origin, seen_start}
+use Rattle.par_typed.specs.declared.stmt.TStmtKind.TheViews.{the_lemmas}
 use Rattle.par_typed.specs.Shown.{all_do, does}
 use Rattle.par_flow_laws.specs.Body.{sta, stas, tested}
+use Rattle.par_nodes.proofs.Forms.{forms}
 use Rattle.par_nodes.proofs.Branches.{stas_none, stas_next, catches_none, catches_next}
 use Rattle.par_nodes.proofs.Statements.{block_made, if_made, while_made, looped, try_made}
 use Rattle.par_nodes.proofs.Statements.{return_made}
@@ -44,6 +46,12 @@ catches-loop-place-preserved t c =
     (seen_start c.catch_start.result) (search rules) (search rules) (search rules)
     c.in_ok-rules.ensures c.in_ok-entered.ensures c.catch_start.ensures c.loop-place.invariant
 
+pub else_rules-returns-in-None : goal.else_rules-returns-in-None
+else_rules-returns-in-None t c = grind (arith, forms)
+
+pub else_rules-returns-in_ok-rest-in-Some : goal.else_rules-returns-in_ok-rest-in-Some
+else_rules-returns-in_ok-rest-in-Some t c = grind (arith, forms)
+
 pub rules_of-returns-in-Block : goal.rules_of-returns-in-Block
 rules_of-returns-in-Block t c =
     let s = c.args.stmt.now in
@@ -74,14 +82,17 @@ rules_of-returns-in-While t c =
     (seen_rules r.rules) (looped d (does block)) c.in-While.is c.deref-in-While.ensures refl)
     c.loops.ensures
 
+pub rules_of-tries-requires : goal.rules_of-tries-requires
+rules_of-tries-requires t c = (search (rules, the_lemmas), c.in_ok-classes-in-Try.ensures)
+
 pub rules_of-returns-in_ok-node-in-Try : goal.rules_of-returns-in_ok-node-in-Try
 rules_of-returns-in_ok-node-in-Try t c =
     let s = c.args.stmt.now in
     IfOk-weaker c.tries.result _ _
     (λ r. try_made (declares c.args.table.now) s.kind s.at s.point c.in-Try.block
-    c.in-Try.clauses c.as_slice-in-Try.result.now c.deref-in-Try.result.now (seen_rules r.rules)
+    c.in-Try.clauses c.as_slice-clauses.result.now c.deref-in-Try.result.now (seen_rules r.rules)
     (seen_node c.in_ok-node-in-Try.node.node.value) c.in-Try.is c.deref-in-Try.ensures
-    c.in_ok-node-in-Try.ensures c.as_slice-in-Try.ensures)
+    c.in_ok-node-in-Try.ensures c.as_slice-clauses.ensures)
     c.tries.ensures
 
 pub rules_of-returns-in-Return : goal.rules_of-returns-in-Return

@@ -1,0 +1,7 @@
+use Rattle.par_typed.specs.Shown.{mark_of}
+use Rattle.par_nodes.proofs.Literals.{never_forever}
+use Rattle.par_nodes.proofs.stmt.is_forever.Goals as goal
+
+pub returns-in_default : goal.returns-in_default
+returns-in_default c =
+    never_forever c.args.e.now.kind (mark_of c.args.e.now) c.in_default.not-Bool
