@@ -1,6 +1,6 @@
 // What is made of exits, on ways of two locals, with ample memory.
 ghost use Rattle.std.specs.Prelude.{◌≡◌, ◌<◌, ℕ, IfOk, length};
-ghost use Rattle.par_except.specs.Exits.{seen_throws, AreOnce, HaveLocals};
+ghost use Rattle.par_except.specs.Exits.{seen_throws, AreOnce, HaveLocals, ThrowsHaveLocals};
 
 use par_atoms::Atoms;
 use par_base::list::List;
@@ -38,20 +38,15 @@ fn way(alloc: Global, context: u16, first: u16, second: u16, lock: u32) -> Resul
 }
 
 // The throw of one class.
-fn thrown(alloc: Global, policy: u16, lock: u32) -> Result<Ways, NoMemory>
+fn throws(alloc: Global, policy: u16, lock: u32) -> Result<List<(u16, Way)>, NoMemory>
     requires { (policy < 250) × (lock < 256) }
-    ensures once { IfOk result (λ w. AreOnce (seen_throws w.throws)) }
-    ensures locals { IfOk result (λ w. HaveLocals 2 w) }
+    ensures once { IfOk result (λ throws. AreOnce (seen_throws throws)) }
+    ensures locals { IfOk result (λ throws. ThrowsHaveLocals 2 throws) }
 {
+    let way = way(alloc, policy + 3, policy, 2, lock)?;
     let mut throws = List::new(alloc);
-    throws.push((BAD, way(alloc, policy + 3, policy, 2, lock)?))?;
-    Ok(Ways {
-        normal: None,
-        ret: None,
-        brk: None,
-        cont: None,
-        throws,
-    })
+    throws.push((BAD, way))?;
+    Ok(throws)
 }
 
 // A normal exit, a break, a continue, and a throw.
@@ -60,11 +55,17 @@ fn ways(alloc: Global, policy: u16, lock: u32) -> Result<Ways, NoMemory>
     ensures once { IfOk result (λ w. AreOnce (seen_throws w.throws)) }
     ensures locals { IfOk result (λ w. HaveLocals 2 w) }
 {
-    let mut ways = thrown(alloc, policy, lock)?;
-    ways.normal = Some(way(alloc, policy, 1, 2, lock)?);
-    ways.brk = Some(way(alloc, policy + 1, 1, 2, lock)?);
-    ways.cont = Some(way(alloc, policy + 2, 1, 2, lock)?);
-    Ok(ways)
+    let normal = way(alloc, policy, 1, 2, lock)?;
+    let brk = way(alloc, policy + 1, 1, 2, lock)?;
+    let cont = way(alloc, policy + 2, 1, 2, lock)?;
+    let throws = throws(alloc, policy, lock)?;
+    Ok(Ways {
+        normal: Some(normal),
+        ret: None,
+        brk: Some(brk),
+        cont: Some(cont),
+        throws,
+    })
 }
 
 // What a way is to have: the policies of its context and of its first local, and its locks.
@@ -124,11 +125,31 @@ fn are_joined(both: &Ways) -> bool {
     is_exit(&both.normal, &JOINED) && is_thrown(both, &JOINED_THROW) && both.ret.is_none()
 }
 
+fn joins_both(alloc: Global, one: &Ways, other: &Ways) -> Result<bool, NoMemory>
+    requires once { AreOnce (seen_throws one.now.throws) × AreOnce (seen_throws other.now.throws) }
+    requires locals { HaveLocals 2 one.now × HaveLocals 2 other.now }
+{
+    let both = join(alloc, one, other)?;
+    let are_joined = are_joined(&both);
+    drop(both);
+    Ok(are_joined)
+}
+
+fn joins_another(alloc: Global, one: &Ways) -> Result<bool, NoMemory>
+    requires once { AreOnce (seen_throws one.now.throws) }
+    requires locals { HaveLocals 2 one.now }
+{
+    let other = ways(alloc, 20, 4)?;
+    let joins = joins_both(alloc, one, &other);
+    drop(other);
+    joins
+}
+
 fn joins(alloc: Global) -> Result<bool, NoMemory> {
     let one = ways(alloc, 10, 3)?;
-    let other = ways(alloc, 20, 4)?;
-    let both = join(alloc, &one, &other)?;
-    Ok(are_joined(&both))
+    let joins = joins_another(alloc, &one);
+    drop(one);
+    joins
 }
 
 const RAISED: Wanted = Wanted {
@@ -137,10 +158,18 @@ const RAISED: Wanted = Wanted {
     locks: &[0, 3],
 };
 
+fn is_raised(alloc: Global, low: &Way) -> Result<bool, NoMemory> {
+    let high = raise(alloc, low, &Atoms::empty().with(7))?;
+    let is_raised = is_way(&high, &RAISED);
+    drop(high);
+    Ok(is_raised)
+}
+
 fn raises(alloc: Global) -> Result<bool, NoMemory> {
     let low = way(alloc, 10, 1, 2, 3)?;
-    let high = raise(alloc, &low, &Atoms::empty().with(7))?;
-    Ok(is_way(&high, &RAISED))
+    let raises = is_raised(alloc, &low);
+    drop(low);
+    raises
 }
 
 const THROWN: Wanted = Wanted {
@@ -149,10 +178,25 @@ const THROWN: Wanted = Wanted {
     locks: &[0, 3],
 };
 
+fn is_absorbed(way: &Option<Way>, rest: &Ways) -> bool {
+    is_exit(way, &THROWN) && rest.throws.len() == 0 && rest.brk.is_some()
+}
+
+fn throw_is_absorbed(alloc: Global, all: &Ways) -> Result<bool, NoMemory>
+    requires { AreOnce (seen_throws all.now.throws) }
+{
+    let (way, rest) = absorb_throw(alloc, all, BAD)?;
+    let is_absorbed = is_absorbed(&way, &rest);
+    drop(way);
+    drop(rest);
+    Ok(is_absorbed)
+}
+
 fn absorbs_throw(alloc: Global) -> Result<bool, NoMemory> {
     let all = ways(alloc, 10, 3)?;
-    let (way, rest) = absorb_throw(alloc, &all, BAD)?;
-    Ok(is_exit(&way, &THROWN) && rest.throws.len() == 0 && rest.brk.is_some())
+    let absorbs = throw_is_absorbed(alloc, &all);
+    drop(all);
+    absorbs
 }
 
 const BROKEN: Wanted = Wanted {
@@ -172,10 +216,26 @@ fn are_absorbed(rest: &Ways) -> bool {
     rest.brk.is_none() && rest.cont.is_none() && rest.throws.len() == 1
 }
 
+fn are_left(brk: &Option<Way>, cont: &Option<Way>, rest: &Ways) -> bool {
+    is_exit(brk, &BROKEN) && is_exit(cont, &CONTINUED) && are_absorbed(rest)
+}
+
+fn loop_is_absorbed(alloc: Global, all: &Ways) -> Result<bool, NoMemory>
+    requires { AreOnce (seen_throws all.now.throws) }
+{
+    let (brk, cont, rest) = absorb_loop(alloc, all)?;
+    let are_left = are_left(&brk, &cont, &rest);
+    drop(brk);
+    drop(cont);
+    drop(rest);
+    Ok(are_left)
+}
+
 fn absorbs_loop(alloc: Global) -> Result<bool, NoMemory> {
     let all = ways(alloc, 10, 3)?;
-    let (brk, cont, rest) = absorb_loop(alloc, &all)?;
-    Ok(is_exit(&brk, &BROKEN) && is_exit(&cont, &CONTINUED) && are_absorbed(&rest))
+    let absorbs = loop_is_absorbed(alloc, &all);
+    drop(all);
+    absorbs
 }
 
 #[test]

@@ -25,11 +25,35 @@ const JOINS: &[(&str, &[Part], &[Part], &[Part])] = &[
     ("with top", &[(ALICE, &[])], &[], &[]),
 ];
 
+fn join_lists(
+    alloc: Global,
+    one: &Policy,
+    other: &Policy,
+    made: &[Part],
+) -> Result<bool, NoMemory> {
+    let join = join(alloc, one, other)?;
+    let lists = lists(alloc, join.clauses(), made);
+    drop(join);
+    lists
+}
+
+fn joins_with(
+    alloc: Global,
+    one: &Policy,
+    other: &[Part],
+    made: &[Part],
+) -> Result<bool, NoMemory> {
+    let other = policy(alloc, other)?;
+    let lists = join_lists(alloc, one, &other, made);
+    drop(other);
+    lists
+}
+
 fn joins_to(alloc: Global, one: &[Part], other: &[Part], made: &[Part]) -> Result<bool, NoMemory> {
     let one = policy(alloc, one)?;
-    let other = policy(alloc, other)?;
-    let join = join(alloc, &one, &other)?;
-    lists(alloc, join.clauses(), made)
+    let joins = joins_with(alloc, &one, other, made);
+    drop(one);
+    joins
 }
 
 const MEETS: &[(&str, &[Part], &[Part], &[Part])] = &[
@@ -48,11 +72,35 @@ const MEETS: &[(&str, &[Part], &[Part], &[Part])] = &[
     ("with top", &[], &[(BOB, &[])], &[(BOB, &[])]),
 ];
 
+fn meet_lists(
+    alloc: Global,
+    one: &Policy,
+    other: &Policy,
+    made: &[Part],
+) -> Result<bool, NoMemory> {
+    let meet = meet(alloc, one, other)?;
+    let lists = lists(alloc, meet.clauses(), made);
+    drop(meet);
+    lists
+}
+
+fn meets_with(
+    alloc: Global,
+    one: &Policy,
+    other: &[Part],
+    made: &[Part],
+) -> Result<bool, NoMemory> {
+    let other = policy(alloc, other)?;
+    let lists = meet_lists(alloc, one, &other, made);
+    drop(other);
+    lists
+}
+
 fn meets_in(alloc: Global, one: &[Part], other: &[Part], made: &[Part]) -> Result<bool, NoMemory> {
     let one = policy(alloc, one)?;
-    let other = policy(alloc, other)?;
-    let meet = meet(alloc, &one, &other)?;
-    lists(alloc, meet.clauses(), made)
+    let meets = meets_with(alloc, &one, other, made);
+    drop(one);
+    meets
 }
 
 const SPECIALISED: &[(&str, &[Part], &[u16], &[Part])] = &[
@@ -83,9 +131,24 @@ fn is_special(
     made: &[Part],
 ) -> Result<bool, NoMemory> {
     let whole = policy(alloc, whole)?;
+    let is_special = is_special_of(alloc, &whole, opened, made);
+    drop(whole);
+    is_special
+}
+
+fn is_special_of(
+    alloc: Global,
+    whole: &Policy,
+    opened: &[u16],
+    made: &[Part],
+) -> Result<bool, NoMemory> {
     let opened = lock_set(alloc, opened)?;
-    let special = special(alloc, &whole, &opened)?;
-    lists(alloc, special.clauses(), made)
+    let special = special(alloc, whole, &opened);
+    drop(opened);
+    let special = special?;
+    let lists = lists(alloc, special.clauses(), made);
+    drop(special);
+    lists
 }
 
 #[test]
@@ -150,14 +213,35 @@ fn made_of(alloc: Global, made: Made, one: &Lockset, other: &Lockset) -> Result<
 
 fn is_same(alloc: Global, set: &Lockset, want: &[u16]) -> Result<bool, NoMemory> {
     let want = lock_set(alloc, want)?;
-    Ok(set.within(&want) && want.within(set))
+    let is_same = set.within(&want) && want.within(set);
+    drop(want);
+    Ok(is_same)
+}
+
+fn made_with(alloc: Global, made: Made, one: &Lockset, other: &[u16]) -> Result<Lockset, NoMemory> {
+    let other = lock_set(alloc, other)?;
+    let set = made_of(alloc, made, one, &other);
+    drop(other);
+    set
+}
+
+fn is_made_with(
+    alloc: Global,
+    made: Made,
+    one: &Lockset,
+    sets: &[&[u16]; 3],
+) -> Result<bool, NoMemory> {
+    let set = made_with(alloc, made, one, sets[1])?;
+    let is_same = is_same(alloc, &set, sets[2]);
+    drop(set);
+    is_same
 }
 
 fn is_made(alloc: Global, made: Made, sets: &[&[u16]; 3]) -> Result<bool, NoMemory> {
     let one = lock_set(alloc, sets[0])?;
-    let other = lock_set(alloc, sets[1])?;
-    let set = made_of(alloc, made, &one, &other)?;
-    is_same(alloc, &set, sets[2])
+    let is_made = is_made_with(alloc, made, &one, sets);
+    drop(one);
+    is_made
 }
 
 #[test]
@@ -218,14 +302,14 @@ fn holds<const W: usize>(numbers: &[u32], others: &[u32]) -> bool
     count && has_each(&set, numbers) && !has_one(&set, others)
 }
 
-const IN_ONE_WORD: &[(&str, &[u32], &[u32])] = &[
+const IN_ONE_WORD: &[Edges] = &[
     ("none of a word", &[], &[0, 1, 62, 63]),
     ("the first of a word", &[0], &[1, 62, 63]),
     ("the last of a word", &[63], &[0, 1, 62]),
     ("both ends of a word", &[0, 63], &[1, 62]),
 ];
 
-const IN_64_WORDS: &[(&str, &[u32], &[u32])] = &[
+const IN_64_WORDS: &[Edges] = &[
     ("none of 64 words", &[], &[0, 63, 64, 4095]),
     ("the first of all", &[0], &[63, 64, 4032, 4095]),
     ("the last of the first word", &[63], &[0, 64, 127, 4095]),
@@ -234,15 +318,26 @@ const IN_64_WORDS: &[(&str, &[u32], &[u32])] = &[
     ("all edges", &[0, 63, 64, 4095], &[1, 62, 65, 127, 4094]),
 ];
 
-#[test]
-fn edges() -> Result<(), Fail> {
-    for (name, numbers, others) in IN_ONE_WORD {
+type Edges = (&'static str, &'static [u32], &'static [u32]);
+
+fn check_one_word(rows: &[Edges]) -> Result<(), Fail> {
+    for (name, numbers, others) in rows {
         expect(holds::<1>(numbers, others), name)?;
     }
-    for (name, numbers, others) in IN_64_WORDS {
+    Ok(())
+}
+
+fn check_64_words(rows: &[Edges]) -> Result<(), Fail> {
+    for (name, numbers, others) in rows {
         expect(holds::<64>(numbers, others), name)?;
     }
     Ok(())
+}
+
+#[test]
+fn edges() -> Result<(), Fail> {
+    check_one_word(IN_ONE_WORD)?;
+    check_64_words(IN_64_WORDS)
 }
 
 // Two sets, what is in either, what is in both, and what is in the first alone.
@@ -335,8 +430,22 @@ fn is_below(
     locks: &'static [u16],
 ) -> Result<bool, NoMemory> {
     let table = paid_and_gold(alloc)?;
+    let is_below = is_table_below(alloc, numbers, table.as_slice(), opened, locks);
+    drop(table);
+    is_below
+}
+
+fn is_table_below(
+    alloc: Global,
+    numbers: &[u16],
+    table: &[Policy],
+    opened: &[u32],
+    locks: &'static [u16],
+) -> Result<bool, NoMemory> {
     let q = policy(alloc, &[(ALICE, locks)])?;
-    Ok(join_below(numbers, table.as_slice(), &set_of(opened), &q))
+    let is_below = join_below(numbers, table, &set_of(opened), &q);
+    drop(q);
+    Ok(is_below)
 }
 
 #[test]

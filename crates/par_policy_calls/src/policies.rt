@@ -30,15 +30,22 @@ fn clause(alloc: Global, part: &Part) -> Result<Clause, NoMemory> {
     })
 }
 
-pub fn policy(alloc: Global, parts: &[Part]) -> Result<Policy, NoMemory> {
-    let mut clauses = Vec::new(alloc);
+fn put_clauses(alloc: Global, clauses: &mut Vec<Clause>, parts: &[Part]) -> Result<(), NoMemory> {
     for part in parts {
         clauses.push(clause(alloc, part)?)?;
     }
-    Policy::of(alloc, clauses.as_slice())
+    Ok(())
 }
 
-const LOCK_SETS: &[(&str, &[u16], &[u16], bool)] = &[
+pub fn policy(alloc: Global, parts: &[Part]) -> Result<Policy, NoMemory> {
+    let mut clauses = Vec::new(alloc);
+    put_clauses(alloc, &mut clauses, parts)?;
+    let policy = Policy::of(alloc, clauses.as_slice());
+    drop(clauses);
+    policy
+}
+
+const LOCK_SETS: &[LockSets] = &[
     ("none is within each", &[], &[GOLD], true),
     ("gold is within both", &[GOLD], &[GOLD, PAID, GOLD], true),
     (
@@ -56,21 +63,48 @@ const LOCK_SETS: &[(&str, &[u16], &[u16], bool)] = &[
     ("in any order", &[PAID, GOLD], &[GOLD, PAID, GOLD], true),
 ];
 
+fn is_copy_within(one: &Lockset, other: &Lockset) -> Result<bool, NoMemory> {
+    let copy = one.clone()?;
+    let is_within = copy.within(other) && one.within(&copy);
+    drop(copy);
+    Ok(is_within)
+}
+
+fn is_set_of_locks_within(alloc: Global, one: &Lockset, other: &[u16]) -> Result<bool, NoMemory> {
+    let other = lock_set(alloc, other)?;
+    let is_within = is_copy_within(one, &other);
+    drop(other);
+    is_within
+}
+
 // Whether a copy of the one is within the other.
 fn is_within(alloc: Global, one: &[u16], other: &[u16]) -> Result<bool, NoMemory> {
     let one = lock_set(alloc, one)?;
-    let other = lock_set(alloc, other)?;
-    let copy = one.clone()?;
-    Ok(copy.within(&other) && one.within(&copy))
+    let is_within = is_set_of_locks_within(alloc, &one, other);
+    drop(one);
+    is_within
+}
+
+type LockSets = (&'static str, &'static [u16], &'static [u16], bool);
+
+fn check_lock_sets(alloc: Global, rows: &[LockSets]) -> Result<(), Fail> {
+    for (name, one, other, within) in rows {
+        expect(is_within(alloc, one, other)? == *within, name)?;
+    }
+    Ok(())
+}
+
+fn has_gold_alone(alloc: Global) -> Result<bool, NoMemory> {
+    let gold = lock_set(alloc, &[GOLD])?;
+    let has_gold = gold.has(GOLD) && !gold.has(PAID);
+    drop(gold);
+    Ok(has_gold)
 }
 
 #[test]
 pub fn lock_sets(rt: HostRuntime) -> Result<(), Fail> {
-    for (name, one, other, within) in LOCK_SETS {
-        expect(is_within(rt.alloc(), one, other)? == *within, name)?;
-    }
-    let gold = lock_set(rt.alloc(), &[GOLD])?;
-    expect(gold.has(GOLD) && !gold.has(PAID), "gold has gold alone")
+    check_lock_sets(rt.alloc(), LOCK_SETS)?;
+    expect(has_gold_alone(rt.alloc())?, "gold has gold alone")
 }
 
 const ORDER: &[(&str, &[Part], &[Part], bool)] = &[
@@ -87,10 +121,18 @@ const ORDER: &[(&str, &[Part], &[Part], bool)] = &[
     ),
 ];
 
-fn is_below(alloc: Global, one: &[Part], other: &[Part]) -> Result<bool, NoMemory> {
+fn is_below_this(alloc: Global, one: &[Part], other: &Policy) -> Result<bool, NoMemory> {
     let one = policy(alloc, one)?;
+    let is_below = leq(&one, other);
+    drop(one);
+    Ok(is_below)
+}
+
+fn is_below(alloc: Global, one: &[Part], other: &[Part]) -> Result<bool, NoMemory> {
     let other = policy(alloc, other)?;
-    Ok(leq(&one, &other))
+    let is_below = is_below_this(alloc, one, &other);
+    drop(other);
+    is_below
 }
 
 const CLAUSES: &[(&str, Part, Part, bool)] = &[
@@ -99,22 +141,49 @@ const CLAUSES: &[(&str, Part, Part, bool)] = &[
     ("another actor", (ALICE, &[]), (BOB, &[GOLD]), false),
 ];
 
+fn copy_of(alloc: Global, part: &Part) -> Result<Clause, NoMemory> {
+    let clause = clause(alloc, part)?;
+    let copy = clause.clone();
+    drop(clause);
+    Ok(copy?)
+}
+
+fn is_copy_below(alloc: Global, one: &Part, other: &Clause) -> Result<bool, NoMemory> {
+    let one = copy_of(alloc, one)?;
+    let is_below = clause_leq(&one, other);
+    drop(one);
+    Ok(is_below)
+}
+
 // Whether a copy of the one is below the other.
 fn is_clause_below(alloc: Global, one: &Part, other: &Part) -> Result<bool, NoMemory> {
-    let one = clause(alloc, one)?.clone()?;
     let other = clause(alloc, other)?;
-    Ok(clause_leq(&one, &other))
+    let is_below = is_copy_below(alloc, one, &other);
+    drop(other);
+    is_below
+}
+
+fn check_order(
+    alloc: Global,
+    rows: &[(&'static str, &'static [Part], &'static [Part], bool)],
+) -> Result<(), Fail> {
+    for (name, one, other, below) in rows {
+        expect(is_below(alloc, one, other)? == *below, name)?;
+    }
+    Ok(())
+}
+
+fn check_clauses(alloc: Global, rows: &[(&'static str, Part, Part, bool)]) -> Result<(), Fail> {
+    for (name, one, other, below) in rows {
+        expect(is_clause_below(alloc, one, other)? == *below, name)?;
+    }
+    Ok(())
 }
 
 #[test]
 fn order(rt: HostRuntime) -> Result<(), Fail> {
-    for (name, one, other, below) in ORDER {
-        expect(is_below(rt.alloc(), one, other)? == *below, name)?;
-    }
-    for (name, one, other, below) in CLAUSES {
-        expect(is_clause_below(rt.alloc(), one, other)? == *below, name)?;
-    }
-    Ok(())
+    check_order(rt.alloc(), ORDER)?;
+    check_clauses(rt.alloc(), CLAUSES)
 }
 
 const OPEN: &[(&str, &[u16], bool)] = &[
@@ -122,12 +191,26 @@ const OPEN: &[(&str, &[u16], bool)] = &[
     ("none is open", &[], false),
 ];
 
+fn is_both_below(alloc: Global, open: &Lockset, gold: &Policy) -> Result<bool, NoMemory> {
+    let both = policy(alloc, &[(BOB, &[PAID, GOLD])])?;
+    let is_below = leq_at(&both, open, gold);
+    drop(both);
+    Ok(is_below)
+}
+
+fn is_gold_above(alloc: Global, open: &Lockset) -> Result<bool, NoMemory> {
+    let gold = policy(alloc, &[(BOB, &[GOLD])])?;
+    let is_above = is_both_below(alloc, open, &gold);
+    drop(gold);
+    is_above
+}
+
 // Whether what bob sees by both locks is below what he sees by gold, where these are open.
 fn is_below_at(alloc: Global, open: &[u16]) -> Result<bool, NoMemory> {
     let open = lock_set(alloc, open)?;
-    let both = policy(alloc, &[(BOB, &[PAID, GOLD])])?;
-    let gold = policy(alloc, &[(BOB, &[GOLD])])?;
-    Ok(leq_at(&both, &open, &gold))
+    let is_below = is_gold_above(alloc, &open);
+    drop(open);
+    is_below
 }
 
 #[test]
@@ -146,9 +229,17 @@ const OBSERVERS: &[(&str, u8, &[u16], bool)] = &[
 ];
 
 fn is_seen(alloc: Global, actor: u8, open: &[u16]) -> Result<bool, NoMemory> {
-    let policy = policy(alloc, &[(ALICE, &[]), (BOB, &[PAID])])?;
     let open = lock_set(alloc, open)?;
-    Ok(sees(&policy, actor, &open))
+    let is_seen = is_seen_with(alloc, actor, &open);
+    drop(open);
+    is_seen
+}
+
+fn is_seen_with(alloc: Global, actor: u8, open: &Lockset) -> Result<bool, NoMemory> {
+    let policy = policy(alloc, &[(ALICE, &[]), (BOB, &[PAID])])?;
+    let is_seen = sees(&policy, actor, open);
+    drop(policy);
+    Ok(is_seen)
 }
 
 #[test]
@@ -173,6 +264,7 @@ const NORMAL: &[Part] = &[(ALICE, &[]), (BOB, &[PAID]), (BOB, &[GOLD])];
 fn is_part(alloc: Global, clause: &Clause, part: &Part) -> Result<bool, NoMemory> {
     let locks = lock_set(alloc, part.1)?;
     let same = clause.locks.within(&locks) && locks.within(&clause.locks);
+    drop(locks);
     Ok(clause.actor == part.0 && same)
 }
 
@@ -186,14 +278,23 @@ pub fn lists(alloc: Global, clauses: &[Clause], want: &[Part]) -> Result<bool, N
     Ok(clauses.len() == want.len())
 }
 
+fn copy_of_given(alloc: Global) -> Result<Policy, NoMemory> {
+    let given = policy(alloc, GIVEN)?;
+    let copy = given.clone();
+    drop(given);
+    Ok(copy?)
+}
+
+fn is_normal(alloc: Global) -> Result<bool, NoMemory> {
+    let copy = copy_of_given(alloc)?;
+    let is_normal = lists(alloc, copy.clauses(), NORMAL);
+    drop(copy);
+    is_normal
+}
+
 #[test]
 fn normal_form(rt: HostRuntime) -> Result<(), Fail> {
-    let given = policy(rt.alloc(), GIVEN)?;
-    let copy = given.clone()?;
-    expect(
-        lists(rt.alloc(), copy.clauses(), NORMAL)?,
-        "least clauses, in order",
-    )
+    expect(is_normal(rt.alloc())?, "least clauses, in order")
 }
 
 const SETS: &[(&str, &[u16], &[u16], bool)] = &[
@@ -203,23 +304,54 @@ const SETS: &[(&str, &[u16], &[u16], bool)] = &[
     ("two are within themselves", &[0, 1], &[0, 1], true),
 ];
 
+fn of_one(alloc: Global, number: u16) -> Result<PolicySet, NoMemory> {
+    let mut one = PolicySet::new(alloc);
+    one.add(number)?;
+    Ok(one)
+}
+
+fn add_one(alloc: Global, set: &mut PolicySet, number: u16) -> Result<(), NoMemory> {
+    let one = of_one(alloc, number)?;
+    let added = set.add_all(&one);
+    drop(one);
+    added?;
+    Ok(())
+}
+
+fn add_each(alloc: Global, set: &mut PolicySet, numbers: &[u16]) -> Result<(), NoMemory> {
+    for number in numbers {
+        add_one(alloc, set, *number)?;
+    }
+    Ok(())
+}
+
 // The set of these numbers, added set by set.
 fn set_of(alloc: Global, numbers: &[u16]) -> Result<PolicySet, NoMemory> {
     let mut set = PolicySet::new(alloc);
-    for number in numbers {
-        let mut one = PolicySet::new(alloc);
-        one.add(*number)?;
-        set.add_all(&one)?;
-    }
+    add_each(alloc, &mut set, numbers)?;
     Ok(set)
+}
+
+fn is_copy_of_set_within(one: &PolicySet, other: &PolicySet) -> Result<bool, NoMemory> {
+    let copy = one.clone()?;
+    let is_within = copy.within(other) && one.within(&copy);
+    drop(copy);
+    Ok(is_within)
+}
+
+fn is_within_set_of(alloc: Global, one: &PolicySet, other: &[u16]) -> Result<bool, NoMemory> {
+    let other = set_of(alloc, other)?;
+    let is_within = is_copy_of_set_within(one, &other);
+    drop(other);
+    is_within
 }
 
 // Whether a copy of the one is within the other.
 fn is_set_within(alloc: Global, one: &[u16], other: &[u16]) -> Result<bool, NoMemory> {
     let one = set_of(alloc, one)?;
-    let other = set_of(alloc, other)?;
-    let copy = one.clone()?;
-    Ok(copy.within(&other) && one.within(&copy))
+    let is_within = is_within_set_of(alloc, &one, other);
+    drop(one);
+    is_within
 }
 
 #[test]
@@ -239,9 +371,13 @@ fn put(table: &mut Vec<Policy>, alloc: Global, locks: &'static [u16]) -> Result<
 
 pub fn paid_and_gold(alloc: Global) -> Result<Vec<Policy>, NoMemory> {
     let mut table = Vec::new(alloc);
-    put(&mut table, alloc, &[PAID])?;
-    put(&mut table, alloc, &[GOLD])?;
+    put_both(&mut table, alloc)?;
     Ok(table)
+}
+
+fn put_both(table: &mut Vec<Policy>, alloc: Global) -> Result<(), NoMemory> {
+    put(table, alloc, &[PAID])?;
+    put(table, alloc, &[GOLD])
 }
 
 // Whether these are numbers of policies in the table whose join is below `q`.
@@ -270,8 +406,21 @@ const JOINS: &[(&str, &[u16], &[u16], bool)] = &[
 
 fn join_holds(alloc: Global, numbers: &[u16], locks: &'static [u16]) -> Result<bool, NoMemory> {
     let table = paid_and_gold(alloc)?;
+    let holds = join_of_table_holds(alloc, numbers, table.as_slice(), locks);
+    drop(table);
+    holds
+}
+
+fn join_of_table_holds(
+    alloc: Global,
+    numbers: &[u16],
+    table: &[Policy],
+    locks: &'static [u16],
+) -> Result<bool, NoMemory> {
     let q = policy(alloc, &[(ALICE, locks)])?;
-    join_below(alloc, numbers, table.as_slice(), &q)
+    let holds = join_below(alloc, numbers, table, &q);
+    drop(q);
+    holds
 }
 
 #[test]
