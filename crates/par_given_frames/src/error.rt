@@ -5,7 +5,7 @@ use par_base::memory::NoMemory;
 use std::alloc::AllocError;
 
 /// Why there are no frames, or none could be kept.
-#[derive(Clone, Copy, Debug, PartialEq, Eq)]
+#[derive(Clone, Copy)]
 pub(crate) enum Unread {
     /// The bytes of an attribute say none.
     Refused,
