@@ -16,11 +16,11 @@ use Rattle.par_typed.specs.declared.program.TBody.{TBody}
 use Rattle.par_typed.specs.Shown.{body, bodies}
 use Rattle.par_scope.specs.Names.{Names}
 use Rattle.par_scope.specs.Home.{Home, class_named}
-use Rattle.par_annotation_laws.specs.par_type_rules.Methods.{param_slot}
-use Rattle.par_annotation_laws.specs.Frames.{Frame, with_local}
-use Rattle.par_annotation_laws.specs.Stmts.{Written}
-use Rattle.par_annotation_laws.specs.Bodies.{with_params, typed_method, typed_methods, typed_class}
-use Rattle.par_annotation_laws.specs.Bodies.{typed_declaration, typed_declarations}
+use Rattle.par_type_rules.specs.Methods.{param_slot}
+use Rattle.par_type_rules.specs.Frames.{Frame, with_local}
+use Rattle.par_type_rules.specs.TypedStmts.{Written}
+use Rattle.par_type_rules.specs.TypedBodies.{with_params, typed_method, typed_methods, typed_class}
+use Rattle.par_type_rules.specs.TypedBodies.{typed_declaration, typed_declarations}
 use Rattle.par_annotation.specs.Small.{IsSmallSource}
 
 pub params_none : (home : Home) (frame : Frame) → with_params home frame [] ≡ frame

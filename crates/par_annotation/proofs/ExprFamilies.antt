@@ -15,8 +15,8 @@ use Rattle.par_scope.specs.Locals.{Scope, local_named, is_notnull}
 use Rattle.par_scope.specs.Home.{Home}
 use Rattle.par_scope.specs.Meaning.{type_of, called_on, sure}
 use Rattle.par_scope.proofs.Forms as type
-use Rattle.par_annotation_laws.specs.Frames.{Frame}
-use Rattle.par_annotation_laws.specs.Exprs.{typed_exp, typed_may}
+use Rattle.par_type_rules.specs.Frames.{Frame}
+use Rattle.par_type_rules.specs.TypedExprs.{typed_exp, typed_may}
 use Rattle.par_annotation.specs.Calls.{call_named}
 use Rattle.par_annotation.proofs.NodeForms as node
 use Rattle.par_annotation.proofs.ExprForms as form

@@ -22,12 +22,12 @@ use Rattle.par_scope.specs.declared.meaning.Receiver.TheVariants.{Own}
 use Rattle.par_scope.specs.Home.{Home, class_named, class_type}
 use Rattle.par_scope.specs.Meaning.{type_of, receiver_of, selected, op_type}
 use Rattle.par_scope.specs.Meaning.{sure}
-use Rattle.par_annotation_laws.specs.par_type_rules.declared.exprs.TheConstants.{TOO_LARGE}
-use Rattle.par_annotation_laws.specs.Frames.{Frame, var_named}
-use Rattle.par_annotation_laws.specs.Exprs.{numbered, mark_of, own_this, name_typed, number_of}
-use Rattle.par_annotation_laws.specs.Exprs.{negation}
-use Rattle.par_annotation_laws.specs.Exprs.{selection, call, typed_exp, typed_may, typed_args}
-use Rattle.par_annotation_laws.specs.Exprs.{first, behind}
+use Rattle.par_type_rules.specs.declared.exprs.TheConstants.{TOO_LARGE}
+use Rattle.par_type_rules.specs.Frames.{Frame, var_named}
+use Rattle.par_type_rules.specs.TypedExprs.{numbered, mark_of, own_this, name_typed, number_of}
+use Rattle.par_type_rules.specs.TypedExprs.{negation}
+use Rattle.par_type_rules.specs.TypedExprs.{selection, call, typed_exp, typed_may, typed_args}
+use Rattle.par_type_rules.specs.TypedExprs.{first, behind}
 use Rattle.par_annotation.specs.Ints.{one_unless, behind_minus, no_ints, may_no_ints, args_no_ints}
 
 pub typed_exp_int : (home : Home) (frame : Frame) (p : ℕ) (n : ℕ) (at : ℕ) →

@@ -8,9 +8,9 @@ use Rattle.par_tree.specs.Plain.{Declare, Assign, Do, When}
 use Rattle.par_scope.specs.declared.locals.Slot.{Slot}
 use Rattle.par_scope.specs.Locals.{Scope}
 use Rattle.par_scope.specs.Home.{Home}
-use Rattle.par_annotation_laws.specs.par_type_rules.Stmts.{slot_of}
-use Rattle.par_annotation_laws.specs.Frames.{Frame, Var, further}
-use Rattle.par_annotation_laws.specs.Stmts.{Written, may_policy, behind}
+use Rattle.par_type_rules.specs.Stmts.{slot_of}
+use Rattle.par_type_rules.specs.Frames.{Frame, Var, further}
+use Rattle.par_type_rules.specs.TypedStmts.{Written, may_policy, behind}
 use Rattle.par_scope.specs.Own.{locals_in}
 use Rattle.par_annotation.specs.declared.frame.Var as code
 use Rattle.par_annotation.specs.Seen.{var_seen}

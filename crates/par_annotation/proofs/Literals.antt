@@ -3,7 +3,7 @@ use Rattle.std.proofs.Common.{◌≡◌, ℕ, Some, None, refl, sym, ap}
 use Rattle.par_tree.specs.declared.expr.ExprKind.{ExprKind, Field', Call', Neg', Not', Binary'}
 use Rattle.par_tree.specs.declared.expr.ExprKind.TheVariants as expr
 use Rattle.par_tree.specs.Shown.{kind_at}
-use Rattle.par_annotation_laws.specs.Exprs.{number_of}
+use Rattle.par_type_rules.specs.TypedExprs.{number_of}
 
 pub literal : (k : ExprKind) (at n : ℕ) → k ≡ expr.Int n → Some n ≡ number_of (kind_at k at)
 unfolding number_of kind_at

@@ -4,9 +4,9 @@ use Rattle.par_tree.proofs.Shown as tree
 use Rattle.par_typed.specs.Plain.{TExp}
 use Rattle.par_typed.specs.Nodes.{nodes, stmt_nodes}
 use Rattle.par_typed.proofs.Shown as typed
-use Rattle.par_annotation_laws.specs.Stmts.{Target, Nowhere, ToLocal, ToStatic, ToField}
-use Rattle.par_annotation_laws.specs.Stmts.{target_nodes}
-use Rattle.par_annotation_laws.specs.Stmts.{assignment}
+use Rattle.par_type_rules.specs.TypedStmts.{Target, Nowhere, ToLocal, ToStatic, ToField}
+use Rattle.par_type_rules.specs.TypedStmts.{target_nodes}
+use Rattle.par_type_rules.specs.TypedStmts.{assignment}
 use Rattle.par_annotation.proofs.StmtNodeForms as node
 use Rattle.par_annotation.proofs.StmtForms as form
 

@@ -15,18 +15,18 @@ use Rattle.par_tree.specs.Nodes.{all_nodes, catch_nodes, handler_nodes}
 use Rattle.par_typed.specs.Plain as typed
 use Rattle.par_typed.specs.Nodes as count
 use Rattle.par_scope.specs.Home.{Home, class_named}
-use Rattle.par_annotation_laws.specs.par_type_rules.Stmts.{slot_of}
-use Rattle.par_annotation_laws.specs.Frames.{Frame, with_local, further}
-use Rattle.par_annotation_laws.specs.Exprs.{numbered, typed_exp, typed_may}
-use Rattle.par_annotation_laws.specs.Stmts.{Written, may_policy, target, target_nodes, assignment}
-use Rattle.par_annotation_laws.specs.Stmts.{behind}
+use Rattle.par_type_rules.specs.Stmts.{slot_of}
+use Rattle.par_type_rules.specs.Frames.{Frame, with_local, further}
+use Rattle.par_type_rules.specs.TypedExprs.{numbered, typed_exp, typed_may}
+use Rattle.par_type_rules.specs.TypedStmts.{Written, may_policy, target, target_nodes, assignment}
+use Rattle.par_type_rules.specs.TypedStmts.{behind}
 use Rattle.par_scope.specs.Own.{locals_in, braces_locals, may_braces_locals}
 use Rattle.par_scope.specs.Own.{else_locals}
 use Rattle.par_scope.specs.Own.{all_locals}
-use Rattle.par_annotation_laws.specs.Stmts.{typed_sta, typed_braces}
+use Rattle.par_type_rules.specs.TypedStmts.{typed_sta, typed_braces}
 use Rattle.par_scope.specs.Own.{catches_locals, handler_locals}
-use Rattle.par_annotation_laws.specs.Stmts.{typed_may_braces, typed_else, typed_stas, typed_catches}
-use Rattle.par_annotation_laws.specs.Stmts.{typed_handler, caught}
+use Rattle.par_type_rules.specs.TypedStmts.{typed_may_braces, typed_else, typed_stas, typed_catches}
+use Rattle.par_type_rules.specs.TypedStmts.{typed_handler, caught}
 use Rattle.par_annotation.specs.Ints.{no_ints, may_no_ints, stmt_no_ints, braces_no_ints}
 use Rattle.par_annotation.specs.Ints.{may_braces_no_ints, else_no_ints, all_no_ints}
 use Rattle.par_annotation.specs.Ints.{catches_no_ints}

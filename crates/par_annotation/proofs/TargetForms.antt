@@ -8,9 +8,9 @@ use Rattle.par_tree.specs.Plain.{Exps, MayExp}
 use Rattle.par_scope.specs.declared.meaning.Receiver.TheVariants.{Own}
 use Rattle.par_scope.specs.Home.{Home}
 use Rattle.par_scope.specs.Meaning.{type_of, receiver_of, selected}
-use Rattle.par_annotation_laws.specs.Frames.{Frame, var_named}
-use Rattle.par_annotation_laws.specs.Exprs.{own_this, typed_exp}
-use Rattle.par_annotation_laws.specs.Stmts.{Nowhere, target, name_target, selected_target}
+use Rattle.par_type_rules.specs.Frames.{Frame, var_named}
+use Rattle.par_type_rules.specs.TypedExprs.{own_this, typed_exp}
+use Rattle.par_type_rules.specs.TypedStmts.{Nowhere, target, name_target, selected_target}
 
 pub target_int : (home : Home) (frame : Frame) (p : ℕ) (n : ℕ) (at : ℕ) →
     target home frame p (Int n at) ≡ Nowhere

@@ -8,8 +8,8 @@ use Rattle.par_scope.specs.declared.meaning.Receiver.{Receiver}
 use Rattle.par_scope.specs.declared.meaning.Callee.{Callee}
 use Rattle.par_scope.specs.Home.{Home}
 use Rattle.par_scope.specs.Meaning.{called, callee_type}
-use Rattle.par_annotation_laws.specs.Frames.{Frame}
-use Rattle.par_annotation_laws.specs.Exprs.{own_this, callee_on, call, typed_args, mark_of}
+use Rattle.par_type_rules.specs.Frames.{Frame}
+use Rattle.par_type_rules.specs.TypedExprs.{own_this, callee_on, call, typed_args, mark_of}
 
 -- the receiver of what is called at this spot, of which this is written
 abbrev pub receiver_at : Home → Receiver → Callee → MayTExp → Mark → MayTExp

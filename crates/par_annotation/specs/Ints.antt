@@ -9,8 +9,8 @@ use Rattle.par_tree.specs.Plain.{Declare, Assign, Do, When, Braces, In, MayBrace
 use Rattle.par_tree.specs.Plain.{Else, NoElse, Otherwise, Stas, End, Then, Catches, NoCatch, Catch}
 use Rattle.par_tree.specs.Plain.{Handler, On}
 use Rattle.par_tree.specs.Plain as plain
-use Rattle.par_annotation_laws.specs.par_type_rules.declared.exprs.TheConstants.{TOO_LARGE}
-use Rattle.par_annotation_laws.specs.Exprs.{number_of}
+use Rattle.par_type_rules.specs.declared.exprs.TheConstants.{TOO_LARGE}
+use Rattle.par_type_rules.specs.TypedExprs.{number_of}
 
 abbrev pub one_unless : Bool → ℕ
 one_unless true = 0

@@ -1,7 +1,7 @@
 -- What is kept of a frame while statements are made.
 use Rattle.std.specs.Prelude.{◌≡◌, ℕ, ◌+◌, take, length}
-use Rattle.par_annotation_laws.specs.par_type_rules.Kept.{IsKept}
-use Rattle.par_annotation_laws.specs.Frames.{Frame}
+use Rattle.par_type_rules.specs.Kept.{IsKept}
+use Rattle.par_type_rules.specs.Frames.{Frame}
 
 -- what was in scope still is, and so many more locals were declared
 pub record Keeps (old : Frame) (n : ℕ) (new : Frame) : Type 0 where

@@ -5,6 +5,5 @@ pub mod Targets
 pub mod Numbers
 pub mod Keeps
 pub mod Small
-pub use Rattle.par_annotation_laws.specs as par_annotation_laws
+pub use Rattle.par_type_rules.specs as par_type_rules
 pub use Rattle.par_resolved.specs as par_resolved
-pub use Rattle.par_annotation_laws.specs.par_type_rules as par_type_rules

@@ -1,7 +1,7 @@
 -- How written locks and policies are numbered.
 use Rattle.std.specs.Prelude.{List}
 use Rattle.par_policy.specs.declared.clauses.Clause.{Clause}
-use Rattle.par_annotation_laws.specs.Stmts.{Written}
+use Rattle.par_type_rules.specs.TypedStmts.{Written}
 use Rattle.par_resolved.specs.declared.known.Known as code
 use Rattle.par_resolved.specs.Seen.{seen, known_seen}
 use Rattle.par_resolved.specs.Numbers.{lock_number}

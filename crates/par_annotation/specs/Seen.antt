@@ -1,8 +1,8 @@
 -- What the code keeps, as the definitions have it.
 use Rattle.std.specs.Prelude.{map}
 use Rattle.par_typed.specs.Plain.{Mark}
-use Rattle.par_annotation_laws.specs.Frames.{Frame, Var}
-use Rattle.par_annotation_laws.specs.Exprs.{mark_of}
+use Rattle.par_type_rules.specs.Frames.{Frame, Var}
+use Rattle.par_type_rules.specs.TypedExprs.{mark_of}
 use Rattle.par_annotation.specs.declared.frame.Var as var
 use Rattle.par_annotation.specs.declared.frame.Frame as frame
 use Rattle.par_annotation.specs.declared.node.Spot.{Spot}

@@ -1,6 +1,6 @@
 -- What is assigned to, as the definitions have it.
 use Rattle.par_typed.specs.Shown.{shown}
-use Rattle.par_annotation_laws.specs.Stmts.{Target, Nowhere, ToLocal, ToStatic, ToField}
+use Rattle.par_type_rules.specs.TypedStmts.{Target, Nowhere, ToLocal, ToStatic, ToField}
 use Rattle.par_annotation.specs.declared.targets.Target as code
 use Rattle.par_annotation.specs.declared.targets.Target.TheVariants as target
 use Rattle.par_annotation.specs.Seen.{var_seen}

@@ -12,12 +12,12 @@ ghost use Rattle.par_scope.specs.Home.{seen, class_named, class_type};
 ghost use Rattle.par_scope.specs.Locals.{local_named, is_notnull};
 ghost use Rattle.par_scope.specs.Meaning.{type_of, called_on, op_type};
 ghost use Rattle.par_scope.specs.Members.{channel_at};
-ghost use Rattle.par_annotation_laws.specs.Exprs as made;
+ghost use Rattle.par_type_rules.specs.TypedExprs as made;
 ghost use Rattle.par_annotation.specs.Ints.{no_ints, may_no_ints, args_no_ints};
 ghost use Rattle.par_annotation.specs.Seen.{frame_seen, marked};
 ghost use Rattle.par_annotation.specs.Calls.{call_at, call_named, called_type};
 ghost use Rattle.par_typed.specs.declared.ty.Ty.TheVariants as ty;
-ghost use Rattle.par_annotation_laws.specs.par_type_rules.declared.exprs.TheConstants.{TOO_LARGE};
+ghost use Rattle.par_type_rules.specs.declared.exprs.TheConstants.{TOO_LARGE};
 
 use crate::frame::Frame;
 use crate::members::{method_receiver, name_made, own_this, selection};

@@ -1,8 +1,8 @@
 //! The locals in scope with their numbers.
 
 ghost use Rattle.std.specs.Prelude.{◌≡◌, ◌+◌, ◌<◌, ◌^◌, OnOk, option_map};
-ghost use Rattle.par_annotation_laws.specs.Frames.{var_named, with_local};
-ghost use Rattle.par_annotation_laws.specs.Bodies.{no_frame};
+ghost use Rattle.par_type_rules.specs.Frames.{var_named, with_local};
+ghost use Rattle.par_type_rules.specs.TypedBodies.{no_frame};
 ghost use Rattle.par_annotation.specs.Seen.{frame_seen, var_seen};
 
 use par_base::memory::NoMemory;

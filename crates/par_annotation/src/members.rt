@@ -5,7 +5,7 @@ ghost use Rattle.par_typed.specs.Nodes.{nodes, may_nodes};
 ghost use Rattle.par_typed.specs.Shown.{shown, may_shown, receiver};
 ghost use Rattle.par_scope.specs.Home.{seen};
 ghost use Rattle.par_scope.specs.Members as is;
-ghost use Rattle.par_annotation_laws.specs.Exprs as made;
+ghost use Rattle.par_type_rules.specs.TypedExprs as made;
 ghost use Rattle.par_annotation.specs.Seen.{marked, var_seen};
 
 use crate::frame::Var;

@@ -2,7 +2,7 @@
 
 ghost use Rattle.std.specs.Prelude.{◌≡◌, ◌+◌, ◌<◌, ◌^◌, Some, false};
 ghost use Rattle.par_typed.specs.Shown.{kind_at, shown};
-ghost use Rattle.par_annotation_laws.specs.Exprs.{known, numbered, mark_of};
+ghost use Rattle.par_type_rules.specs.TypedExprs.{known, numbered, mark_of};
 ghost use Rattle.par_annotation.specs.Seen.{marked};
 
 use par_scope::meaning::Receiver;

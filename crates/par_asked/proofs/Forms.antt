@@ -9,7 +9,7 @@ use Rattle.par_typed.specs.Plain as typed
 use Rattle.par_typed.specs.Plain.{TExp, MayTExp, TExps, TSta, MayTSta, TStas, TCatches}
 use Rattle.par_typed.specs.Plain.{Mark, mark}
 use Rattle.par_typed.proofs.Shown.{shows, doings, shown_mark}
-use Rattle.par_nodes.specs.par_flow_laws.Declares.{Method, declares}
+use Rattle.par_nodes.specs.par_program_laws.Declares.{Method, declares}
 use Rattle.par_check_laws.specs.Asked.{Check, Context, Effect, Released}
 use Rattle.par_check_laws.specs.Checks.{ask, entry_of, behind, learns, lock_written, locked}
 use Rattle.par_check_laws.specs.Checks.{returned}

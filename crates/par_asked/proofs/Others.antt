@@ -4,8 +4,8 @@ use Rattle.std.proofs.Common.{◌∷◌, ◌++◌, refl, sym, ap, ◌∙◌, app
 use Rattle.std.proofs.Common.{arith}
 use Rattle.std.specs.List.{range_with_len}
 use Rattle.std.proofs.lemmas.List.Elements.{filter-append}
-use Rattle.par_nodes.specs.par_flow_laws.Declares.{Thrown}
-use Rattle.par_nodes.specs.par_flow_laws.Kinds as kind
+use Rattle.par_nodes.specs.par_program_laws.Declares.{Thrown}
+use Rattle.par_nodes.specs.par_program_laws.Kinds as kind
 use Rattle.par_check_laws.specs.Asked.{Check, Never}
 use Rattle.par_check_laws.specs.Checks.{ask, leaving, others, undeclared_checks, is_thrown}
 use Rattle.par_asked.specs.Others.{unless_thrown}

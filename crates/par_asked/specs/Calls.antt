@@ -2,7 +2,7 @@
 use Rattle.std.specs.Prelude.{ℕ, Option, Some, None, List, ◌++◌}
 use Rattle.par_typed.specs.declared.table.Table.{Table}
 use Rattle.par_typed.specs.Plain.{MayTExp, Absent, Present, TExps, mark}
-use Rattle.par_nodes.specs.par_flow_laws.Declares.{Method}
+use Rattle.par_nodes.specs.par_program_laws.Declares.{Method}
 use Rattle.par_check_laws.specs.Asked.{Check}
 use Rattle.par_check_laws.specs.Checks.{arguments, called}
 use Rattle.par_asked.specs.Seen.{called_at}

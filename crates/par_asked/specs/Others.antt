@@ -1,7 +1,7 @@
 -- Classes that are not declared to be thrown.
 use Rattle.std.specs.Prelude.{ℕ, not, List}
 use Rattle.std.specs.List.{filter}
-use Rattle.par_nodes.specs.par_flow_laws.Declares.{Thrown}
+use Rattle.par_nodes.specs.par_program_laws.Declares.{Thrown}
 use Rattle.par_check_laws.specs.Checks.{is_thrown}
 
 abbrev pub unless_thrown : List Thrown → List ℕ → List ℕ

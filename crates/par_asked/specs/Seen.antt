@@ -6,9 +6,9 @@ use Rattle.par_bits.specs.Sets.{Set, none, adding}
 use Rattle.par_typed.specs.declared.table.Table.{Table}
 use Rattle.par_typed.specs.Shown.{all_shown}
 use Rattle.par_typed.specs.Plain.{TExps}
-use Rattle.par_nodes.specs.par_flow_laws.Declares.{Method, method_of}
-use Rattle.par_nodes.specs.par_flow_laws.Rules.{Entry, After, Tested}
-use Rattle.par_nodes.specs.par_flow_laws.Body.{past, args_past, args_tested}
+use Rattle.par_nodes.specs.par_program_laws.Declares.{Method, method_of}
+use Rattle.par_nodes.specs.par_program_laws.Rules.{Entry, After, Tested}
+use Rattle.par_nodes.specs.par_program_laws.Body.{past, args_past, args_tested}
 use Rattle.par_nodes.specs.Seen.{seen_kind}
 use Rattle.par_check_laws.specs.Asked as asked
 use Rattle.par_check_laws.specs.Checks.{points_past}

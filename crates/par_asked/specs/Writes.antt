@@ -3,7 +3,7 @@ use Rattle.std.specs.Prelude.{ℕ, List, [], ◌∷◌, slice_get}
 use Rattle.par_bits.specs.Sets.{adding, none}
 use Rattle.par_typed.specs.declared.table.Table.{Table}
 use Rattle.par_typed.specs.Plain.{TExp, mark}
-use Rattle.par_nodes.specs.par_flow_laws.Declares.{Method}
+use Rattle.par_nodes.specs.par_program_laws.Declares.{Method}
 use Rattle.par_check_laws.specs.Asked.{Released, Worth, Among, Spot, Check}
 use Rattle.par_check_laws.specs.Checks.{ask, behind, entry_of, learns, lock_written, locked}
 use Rattle.par_check_laws.specs.Checks.{written_past}

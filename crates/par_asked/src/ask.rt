@@ -2,7 +2,7 @@
 
 ghost use Rattle.std.specs.Prelude.{◌≡◌, [], ◌∷◌, ◌++◌, OnOk};
 ghost use Rattle.std.specs.Option.{option_copied};
-ghost use Rattle.par_nodes.specs.par_flow_laws.Declares.{method_of};
+ghost use Rattle.par_nodes.specs.par_program_laws.Declares.{method_of};
 ghost use Rattle.par_check_laws.specs.Asked as asked;
 ghost use Rattle.par_check_laws.specs.Checks.{ask};
 ghost use Rattle.par_asked.specs.Seen.{own, seen_check, seen_checks, seen_condition, seen_locks};

@@ -4,7 +4,7 @@ ghost use Rattle.std.specs.Prelude.{◌≡◌, [], ◌∷◌, ◌++◌, OnOk};
 ghost use Rattle.std.specs.Option.{option_copied};
 ghost use Rattle.par_typed.specs.Plain.{mark};
 ghost use Rattle.par_typed.specs.Shown.{all_shown, receiver, shown};
-ghost use Rattle.par_nodes.specs.par_flow_laws.Declares.{declares, method_of, params_of};
+ghost use Rattle.par_nodes.specs.par_program_laws.Declares.{declares, method_of, params_of};
 ghost use Rattle.par_check_laws.specs.Asked as asked;
 ghost use Rattle.par_check_laws.specs.Checks.{args_checks, arguments, ask, called, entry_of};
 ghost use Rattle.par_check_laws.specs.Checks.{exp_checks, may_checks};

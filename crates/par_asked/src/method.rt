@@ -2,8 +2,8 @@
 
 ghost use Rattle.std.specs.Prelude.{◌≡◌, ◌≤◌, [], ◌∷◌, ◌++◌, length, OnOk};
 ghost use Rattle.std.specs.Option.{option_copied};
-ghost use Rattle.par_nodes.specs.par_flow_laws.Declares.{method_of, throws_of};
-ghost use Rattle.par_nodes.specs.par_flow_laws.Kinds as kind;
+ghost use Rattle.par_nodes.specs.par_program_laws.Declares.{method_of, throws_of};
+ghost use Rattle.par_nodes.specs.par_program_laws.Kinds as kind;
 ghost use Rattle.par_check_laws.specs.Checks.{ask, is_thrown, leaving, method_checks, others};
 ghost use Rattle.par_check_laws.specs.Checks.{throws_checks, undeclared_checks};
 ghost use Rattle.par_asked.specs.Others.{unless_thrown};

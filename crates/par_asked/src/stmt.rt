@@ -4,7 +4,7 @@ ghost use Rattle.std.specs.Prelude.{◌≡◌, [], ◌∷◌, ◌++◌, OnOk, sl
 ghost use Rattle.par_bits.specs.Sets.{adding, none};
 ghost use Rattle.par_typed.specs.Shown.{all_catch, all_do, does, may_shown, otherwise};
 ghost use Rattle.par_typed.specs.Shown.{shown};
-ghost use Rattle.par_nodes.specs.par_flow_laws.Declares.{declares};
+ghost use Rattle.par_nodes.specs.par_program_laws.Declares.{declares};
 ghost use Rattle.par_check_laws.specs.Checks.{catches_checks, exp_checks, lock_written, locked};
 ghost use Rattle.par_check_laws.specs.Checks.{may_checks, other_checks, returned, set, sta_checks};
 ghost use Rattle.par_check_laws.specs.Checks.{stas_checks};

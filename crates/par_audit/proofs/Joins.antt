@@ -6,7 +6,7 @@ use Rattle.std.proofs.lemmas.Bool.{and_parts, and_from}
 use Rattle.par_policy.specs.declared.clauses.Clause.{Clause}
 use Rattle.par_policy.specs.Sees.{sees}
 use Rattle.par_bits.specs.Sets.{Set}
-use Rattle.par_flow_laws.specs.Lattice.{joined}
+use Rattle.par_program_laws.specs.Lattice.{joined}
 
 pub one_of_joined : (table : List (List Clause)) (s : Set) (actor : ℕ) (locks : List ℕ)
     → IsTrue (joined table s actor locks)

@@ -7,8 +7,8 @@ use Rattle.std.proofs.lemmas.List.{append_assoc, drop_more}
 use Rattle.par_typed.specs.declared.program.TBody.{TBody}
 use Rattle.par_typed.specs.declared.table.Table.{Table}
 use Rattle.par_typed.specs.Shown.{body, bodies}
-use Rattle.par_flow_laws.specs.Lattice.{numbers}
-use Rattle.par_flow_laws.specs.Facts.{Facts}
+use Rattle.par_program_laws.specs.Lattice.{numbers}
+use Rattle.par_program_laws.specs.Facts.{Facts}
 use Rattle.par_check_laws.specs.Asked.{Check}
 use Rattle.par_check_laws.specs.Checks.{checks}
 use Rattle.par_audit.specs.declared.release.Release.{Release}

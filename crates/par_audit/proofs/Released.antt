@@ -8,7 +8,7 @@ use Rattle.std.proofs.lemmas.Bool.{or_parts, or_from, or_left, or_right}
 use Rattle.par_policy.specs.declared.clauses.Clause.{Clause}
 use Rattle.par_policy.specs.Sees.{sees}
 use Rattle.par_bits.specs.Sets.{Set}
-use Rattle.par_flow_laws.specs.Lattice.{joined}
+use Rattle.par_program_laws.specs.Lattice.{joined}
 use Rattle.par_audit.specs.Released.{is_released}
 use Rattle.par_audit.specs.Rows.{is_one_released}
 use Rattle.par_audit.proofs.Joins.{one_of_joined, joined_of_all}

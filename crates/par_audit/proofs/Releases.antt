@@ -12,8 +12,8 @@ use Rattle.par_bits.specs.Sets.{Set}
 use Rattle.par_typed.specs.declared.table.Table.{Table}
 use Rattle.par_typed.specs.Plain.{Body}
 use Rattle.par_typed.specs.Shown.{bodies}
-use Rattle.par_flow_laws.specs.Lattice.{numbers, joined}
-use Rattle.par_flow_laws.specs.Facts.{Facts}
+use Rattle.par_program_laws.specs.Lattice.{numbers, joined}
+use Rattle.par_program_laws.specs.Facts.{Facts}
 use Rattle.par_pass_laws.proofs.Instances.{in_either}
 use Rattle.par_check_laws.specs.Asked.{Condition, Check}
 use Rattle.par_check_laws.specs.Checks.{checks}

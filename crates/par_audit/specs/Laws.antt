@@ -4,10 +4,10 @@ use Rattle.par_policy.specs.declared.clauses.Clause.{Clause}
 use Rattle.par_bits.specs.Sets.{Set}
 use Rattle.par_typed.specs.declared.program.Typed.{Typed}
 use Rattle.par_typed.specs.Shown.{bodies}
-use Rattle.par_flow_laws.specs.Lattice.{numbers}
-use Rattle.par_flow_laws.specs.Facts.{Facts}
-use Rattle.par_table_laws.specs.Births.{AreFieldsWritten}
-use Rattle.par_table_laws.specs.Declared.{IsWellDeclared}
+use Rattle.par_program_laws.specs.Lattice.{numbers}
+use Rattle.par_program_laws.specs.Facts.{Facts}
+use Rattle.par_program_laws.specs.Births.{AreFieldsWritten}
+use Rattle.par_program_laws.specs.WellDeclared.{IsWellDeclared}
 use Rattle.par_secure_laws.specs.par_typed_laws.WellTyped.{IsWellTyped}
 use Rattle.par_check_laws.specs.Accepted.{IsAcceptedBy}
 use Rattle.par_secrecy.specs.Subject.{Subject}

@@ -4,7 +4,7 @@ use Rattle.std.specs.List.{list_any}
 use Rattle.par_policy.specs.declared.clauses.Clause.{Clause}
 use Rattle.par_policy.specs.Sees.{sees}
 use Rattle.par_bits.specs.Sets.{Set}
-use Rattle.par_flow_laws.specs.Lattice.{joined}
+use Rattle.par_program_laws.specs.Lattice.{joined}
 
 -- with some locks the actor sees the policy and not the join
 abbrev pub IsReleased : List (List Clause) → Set → List Clause → ℕ → Type 0

@@ -12,7 +12,7 @@ use Rattle.par_bits.specs.Sets.{Set, has, none, adding}
 use Rattle.par_atoms.specs.Atoms.{members}
 use Rattle.par_check.specs.Rows.{AreBelowAt}
 use Rattle.par_asked.proofs.par_pass_laws.Along.{joined_given}
-use Rattle.par_asked.specs.par_flow_laws.Lattice.{Seen, IsSeenBelow, joined, seen_by}
+use Rattle.par_asked.specs.par_program_laws.Lattice.{Seen, IsSeenBelow, joined, seen_by}
 use Rattle.par_asked.specs.par_check_laws.Keeps.{IsSeenBelowAt, locks_in}
 
 -- who sees a join sees each of its policies

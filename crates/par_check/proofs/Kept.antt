@@ -1,10 +1,10 @@
 -- A rule is kept where its condition holds of what is known at its spot.
 use Rattle.std.proofs.Common.{◌≡◌, ◌↔◌, Option, Some, None, sym, subst}
 use Rattle.par_typed.specs.declared.table.Table.{Table}
-use Rattle.par_asked.specs.par_flow_laws.Lattice.{numbers, joined}
-use Rattle.par_asked.specs.par_flow_laws.Ways.{Way}
-use Rattle.par_asked.specs.par_flow_laws.Facts.{Facts}
-use Rattle.par_asked.specs.par_flow_laws.Rules.{Holds}
+use Rattle.par_asked.specs.par_program_laws.Lattice.{numbers, joined}
+use Rattle.par_asked.specs.par_program_laws.Ways.{Way}
+use Rattle.par_asked.specs.par_program_laws.Facts.{Facts}
+use Rattle.par_asked.specs.par_program_laws.Rules.{Holds}
 use Rattle.par_asked.specs.par_check_laws.Asked.{Condition, Open, Released, Worth, Joined, Context}
 use Rattle.par_asked.specs.par_check_laws.Asked.{Effect, Among}
 use Rattle.par_asked.specs.par_check_laws.Asked.{Never}

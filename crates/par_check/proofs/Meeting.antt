@@ -3,8 +3,8 @@ use Rattle.std.proofs.Common.{◌≡◌, ◌↔◌, ℕ, Bool, Some, sym, subst}
 use Rattle.std.specs.Prelude.{IsTrue, IfOk, Result, Ok, Err, slice_get}
 use Rattle.par_bits.specs.Sets.{Set, union}
 use Rattle.par_typed.specs.declared.table.Table.{Table}
-use Rattle.par_asked.specs.par_flow_laws.Lattice.{numbers, joined, seen_by, IsSeenBelow}
-use Rattle.par_asked.specs.par_flow_laws.Facts.{Facts}
+use Rattle.par_asked.specs.par_program_laws.Lattice.{numbers, joined, seen_by, IsSeenBelow}
+use Rattle.par_asked.specs.par_program_laws.Facts.{Facts}
 use Rattle.par_asked.specs.par_check_laws.Keeps.{IsSeenBelowAt}
 use Rattle.par_asked.specs.par_check_laws.Verdict.{KeepsNumbered}
 use Rattle.par_asked.specs.declared.check.Check.{Check}

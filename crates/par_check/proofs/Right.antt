@@ -1,8 +1,8 @@
 -- Closed and least facts are right.
 use Rattle.par_typed.specs.declared.table.Table.{Table}
 use Rattle.par_typed.specs.Plain.{Body}
-use Rattle.par_asked.specs.par_flow_laws.Lattice.{numbers}
-use Rattle.par_asked.specs.par_flow_laws.Facts.{Facts}
+use Rattle.par_asked.specs.par_program_laws.Lattice.{numbers}
+use Rattle.par_asked.specs.par_program_laws.Facts.{Facts}
 use Rattle.par_rounds.specs.Bodies.{AreLeastClosed}
 use Rattle.par_asked.specs.par_check_laws.Right.{AreRight}
 

@@ -8,12 +8,12 @@ use Rattle.par_typed.specs.declared.expr.TExpr.{TExpr}
 use Rattle.par_typed.specs.Plain.{TExps, NoExps, More, mark}
 use Rattle.par_typed.specs.Shown.{shown, all_shown}
 use Rattle.par_typed.proofs.Shown.{shown_mark}
-use Rattle.par_asked.specs.par_flow_laws.Lattice.{numbers}
-use Rattle.par_asked.specs.par_flow_laws.Kinds.{Normal}
-use Rattle.par_asked.specs.par_flow_laws.Ways.{Way, raised, moved}
-use Rattle.par_asked.specs.par_flow_laws.Facts.{Facts}
-use Rattle.par_asked.specs.par_flow_laws.Rules.{way, part_at, Entry}
-use Rattle.par_asked.specs.par_flow_laws.Body.{past, args_past, args_count}
+use Rattle.par_asked.specs.par_program_laws.Lattice.{numbers}
+use Rattle.par_asked.specs.par_program_laws.Kinds.{Normal}
+use Rattle.par_asked.specs.par_program_laws.Ways.{Way, raised, moved}
+use Rattle.par_asked.specs.par_program_laws.Facts.{Facts}
+use Rattle.par_asked.specs.par_program_laws.Rules.{way, part_at, Entry}
+use Rattle.par_asked.specs.par_program_laws.Body.{past, args_past, args_count}
 use Rattle.par_asked.specs.par_check_laws.Checks.{points_past}
 use Rattle.par_nodes.specs.declared.rule.Kind as code
 use Rattle.par_nodes.specs.Seen.{seen_kind}

@@ -10,8 +10,8 @@ use Rattle.par_refusals.specs.First.{when, broken, first_of}
 use Rattle.par_typed.specs.Plain.{Body}
 use Rattle.par_typed.specs.Shown.{body, bodies}
 use Rattle.par_refusals.proofs.First.{first_of_append, first_of_none}
-use Rattle.par_asked.specs.par_flow_laws.Lattice.{numbers}
-use Rattle.par_asked.specs.par_flow_laws.Facts.{Facts}
+use Rattle.par_asked.specs.par_program_laws.Lattice.{numbers}
+use Rattle.par_asked.specs.par_program_laws.Facts.{Facts}
 use Rattle.par_asked.specs.par_check_laws.Asked.{Check}
 use Rattle.par_asked.specs.par_check_laws.Checks.{checks}
 use Rattle.par_asked.specs.par_check_laws.Verdict.{KeepsNumbered}

@@ -4,8 +4,8 @@ use Rattle.par_typed.specs.declared.table.Table.{Table}
 use Rattle.par_typed.specs.declared.program.Typed.{Typed}
 use Rattle.par_typed.specs.Plain.{Body}
 use Rattle.par_typed.specs.Shown.{bodies}
-use Rattle.par_asked.specs.par_flow_laws.Lattice.{numbers}
-use Rattle.par_asked.specs.par_flow_laws.Facts.{Facts}
+use Rattle.par_asked.specs.par_program_laws.Lattice.{numbers}
+use Rattle.par_asked.specs.par_program_laws.Facts.{Facts}
 use Rattle.par_asked.specs.par_check_laws.Asked.{Check}
 use Rattle.par_asked.specs.par_check_laws.Checks.{checks}
 use Rattle.par_asked.specs.par_check_laws.Verdict.{KeepsNumbered}

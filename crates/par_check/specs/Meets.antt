@@ -2,9 +2,9 @@
 use Rattle.std.specs.Prelude.{Option, Some, None}
 use Rattle.par_bits.specs.Sets.{Set, none, union}
 use Rattle.par_typed.specs.declared.table.Table.{Table}
-use Rattle.par_asked.specs.par_flow_laws.Lattice.{numbers, joined}
-use Rattle.par_asked.specs.par_flow_laws.Ways.{Way}
-use Rattle.par_asked.specs.par_flow_laws.Facts.{Facts}
+use Rattle.par_asked.specs.par_program_laws.Lattice.{numbers, joined}
+use Rattle.par_asked.specs.par_program_laws.Ways.{Way}
+use Rattle.par_asked.specs.par_program_laws.Facts.{Facts}
 use Rattle.par_asked.specs.par_check_laws.Asked.{Condition, Open, Released, Worth, Joined, Context}
 use Rattle.par_asked.specs.par_check_laws.Asked.{Effect, Among}
 use Rattle.par_asked.specs.par_check_laws.Asked.{Never}

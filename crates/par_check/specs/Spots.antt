@@ -1,9 +1,9 @@
 -- What is known at a spot.
 use Rattle.std.specs.Prelude.{ℕ, Option, Some, None, List, [], ◌∷◌, map}
-use Rattle.par_asked.specs.par_flow_laws.Lattice.{numbers}
-use Rattle.par_asked.specs.par_flow_laws.Kinds.{Normal}
-use Rattle.par_asked.specs.par_flow_laws.Facts.{Facts}
-use Rattle.par_asked.specs.par_flow_laws.Rules.{way}
+use Rattle.par_asked.specs.par_program_laws.Lattice.{numbers}
+use Rattle.par_asked.specs.par_program_laws.Kinds.{Normal}
+use Rattle.par_asked.specs.par_program_laws.Facts.{Facts}
+use Rattle.par_asked.specs.par_program_laws.Rules.{way}
 use Rattle.par_asked.specs.declared.check.Way.{Way}
 use Rattle.par_asked.specs.Seen.{seen_spot}
 use Rattle.par_flow.specs.Standing.{Standing, standing}

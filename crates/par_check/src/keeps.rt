@@ -2,7 +2,7 @@
 
 ghost use Rattle.std.specs.Prelude.{◌≡◌, ◌≤◌, ◌↔◌, length, slice_get, IfOk, IsTrue};
 ghost use Rattle.par_bits.specs.Sets.{has};
-ghost use Rattle.par_asked.specs.par_flow_laws.Lattice.{IsSeenBelow, joined, seen_by};
+ghost use Rattle.par_asked.specs.par_program_laws.Lattice.{IsSeenBelow, joined, seen_by};
 ghost use Rattle.par_asked.specs.Seen.{seen_check, seen_condition};
 ghost use Rattle.par_asked.specs.par_check_laws.Verdict.{KeepsNumbered};
 ghost use Rattle.par_flow.specs.Standing.{stand};

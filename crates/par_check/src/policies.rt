@@ -2,7 +2,7 @@
 
 ghost use Rattle.std.specs.Prelude.{◌≡◌, ◌<◌, ◌≤◌, ◌↔◌, ℕ, length, slice_get, IfOk, IsTrue};
 ghost use Rattle.par_bits.specs.Sets.{has};
-ghost use Rattle.par_asked.specs.par_flow_laws.Lattice.{IsSeenBelow, joined, seen_by};
+ghost use Rattle.par_asked.specs.par_program_laws.Lattice.{IsSeenBelow, joined, seen_by};
 ghost use Rattle.par_asked.specs.par_check_laws.Keeps.{IsSeenBelowAt};
 
 use crate::order::Order;

@@ -3,9 +3,9 @@
 ghost use Rattle.std.specs.Prelude.{◌≡◌, ◌≤◌, None, List as Items, length, IfOk, OnOk};
 ghost use Rattle.std.specs.List.{AllByRecursion};
 ghost use Rattle.par_typed.specs.Shown as shown;
-ghost use Rattle.par_asked.specs.par_flow_laws.Facts.{Facts};
-ghost use Rattle.par_asked.specs.par_flow_laws.Lattice.{numbers};
-ghost use Rattle.par_flow_laws.specs.Orderly.{IsOrderlyBody};
+ghost use Rattle.par_asked.specs.par_program_laws.Facts.{Facts};
+ghost use Rattle.par_asked.specs.par_program_laws.Lattice.{numbers};
+ghost use Rattle.par_program_laws.specs.Orderly.{IsOrderlyBody};
 ghost use Rattle.par_asked.specs.par_check_laws.Accepted.{IsAcceptedBy, MOST_BODIES};
 ghost use Rattle.par_check.specs.Judged.{IsVerdict};
 ghost use Rattle.par_check.specs.Told.{HasTold, HaveTold};

@@ -3,10 +3,10 @@ use Rattle.std.proofs.Common.{ℕ, ◌&&◌, Option, Some, None, List, [], ◌�
 use Rattle.std.specs.Prelude.{map}
 use Rattle.par_bits.specs.Sets.{union}
 use Rattle.par_pass_laws.specs.par_typed.declared.table.Table.{Table}
-use Rattle.par_pass_laws.specs.par_flow_laws.Lattice.{numbers, joined}
-use Rattle.par_pass_laws.specs.par_flow_laws.Ways as rules
-use Rattle.par_pass_laws.specs.par_flow_laws.Facts.{Facts}
-use Rattle.par_pass_laws.specs.par_flow_laws.Rules.{way, Holds}
+use Rattle.par_pass_laws.specs.par_program_laws.Lattice.{numbers, joined}
+use Rattle.par_pass_laws.specs.par_program_laws.Ways as rules
+use Rattle.par_pass_laws.specs.par_program_laws.Facts.{Facts}
+use Rattle.par_pass_laws.specs.par_program_laws.Rules.{way, Holds}
 use Rattle.par_pass_laws.specs.Exits.{Way}
 use Rattle.par_pass_laws.specs.Low.{IsLow, FlowsUnder, MayFlow}
 use Rattle.par_pass_laws.proofs.Order.{sub_trans}

@@ -4,12 +4,12 @@ use Rattle.std.specs.Prelude.{map}
 use Rattle.std.proofs.lemmas.Bool.{and_from}
 use Rattle.par_bits.specs.Sets.{Set, IsWithin, union}
 use Rattle.par_pass_laws.specs.par_typed.declared.table.Table.{Table}
-use Rattle.par_pass_laws.specs.par_flow_laws.Lattice.{numbers, joined, IsSeenBelow}
-use Rattle.par_pass_laws.specs.par_flow_laws.Ways as rules
-use Rattle.par_pass_laws.specs.par_flow_laws.Ways.{Flows, MayFlow}
-use Rattle.par_pass_laws.specs.par_flow_laws.Facts.{Facts}
-use Rattle.par_pass_laws.specs.par_flow_laws.Declares.{declares}
-use Rattle.par_pass_laws.specs.par_flow_laws.Rules.{way, Holds}
+use Rattle.par_pass_laws.specs.par_program_laws.Lattice.{numbers, joined, IsSeenBelow}
+use Rattle.par_pass_laws.specs.par_program_laws.Ways as rules
+use Rattle.par_pass_laws.specs.par_program_laws.Ways.{Flows, MayFlow}
+use Rattle.par_pass_laws.specs.par_program_laws.Facts.{Facts}
+use Rattle.par_pass_laws.specs.par_program_laws.Declares.{declares}
+use Rattle.par_pass_laws.specs.par_program_laws.Rules.{way, Holds}
 use Rattle.par_pass_laws.specs.Exits.{Way}
 use Rattle.par_pass_laws.proofs.Order.{sub_trans, union_l, union_r}
 use Rattle.par_pass_laws.proofs.Along.{as_way, as_may, as_facts, as_all, way_lower, closed_along}

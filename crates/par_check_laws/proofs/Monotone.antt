@@ -13,8 +13,8 @@ use Rattle.par_pass_laws.proofs.par_policy.Ordered.{Contains-first, Contains-lat
 use Rattle.par_pass_laws.proofs.par_policy.Filtered.{Contains-filter, Contains-from_filter}
 use Rattle.par_pass_laws.proofs.par_policy.Seen.{sees_more}
 use Rattle.par_bits.specs.Sets.{Set, IsWithin}
-use Rattle.par_pass_laws.specs.par_flow_laws.Lattice.{Seen, IsSeenBelow, joined}
-use Rattle.par_pass_laws.specs.par_flow_laws.Ranges.{MOST}
+use Rattle.par_pass_laws.specs.par_program_laws.Lattice.{Seen, IsSeenBelow, joined}
+use Rattle.par_pass_laws.specs.par_program_laws.Ranges.{MOST}
 use Rattle.par_pass_laws.proofs.Instances.{AreSeenBelow}
 use Rattle.par_check_laws.specs.Keeps.{locks_in}
 

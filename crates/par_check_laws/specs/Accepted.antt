@@ -4,8 +4,8 @@ use Rattle.par_pass_laws.specs.par_typed.declared.table.Table.{Table}
 use Rattle.par_pass_laws.specs.par_typed.declared.program.Typed.{Typed}
 use Rattle.par_pass_laws.specs.par_typed.Plain.{Body}
 use Rattle.par_pass_laws.specs.par_typed.Shown.{bodies}
-use Rattle.par_pass_laws.specs.par_flow_laws.Lattice.{numbers}
-use Rattle.par_pass_laws.specs.par_flow_laws.Facts.{Facts}
+use Rattle.par_pass_laws.specs.par_program_laws.Lattice.{numbers}
+use Rattle.par_pass_laws.specs.par_program_laws.Facts.{Facts}
 use Rattle.par_check_laws.specs.Asked.{Check}
 use Rattle.par_check_laws.specs.Checks.{checks}
 use Rattle.par_check_laws.specs.Verdict.{KeepsNumbered}

@@ -1,7 +1,7 @@
 -- What can be asked of facts.
 use Rattle.std.specs.Prelude.{ℕ, List}
 use Rattle.par_bits.specs.Sets.{Set}
-use Rattle.par_pass_laws.specs.par_flow_laws.Rules.{From}
+use Rattle.par_pass_laws.specs.par_program_laws.Rules.{From}
 
 -- a condition where a spot is reached; values are those of the expressions at their points, and
 -- policies have their numbers

@@ -12,10 +12,10 @@ use Rattle.par_pass_laws.specs.par_typed.Plain.{TExp, MayTExp, TExps, TSta, MayT
 use Rattle.par_pass_laws.specs.par_typed.Plain.{TCatches}
 use Rattle.par_pass_laws.specs.par_typed.Plain.{Body, mark}
 use Rattle.par_pass_laws.specs.par_typed.Plain.{point}
-use Rattle.par_pass_laws.specs.par_flow_laws.Kinds as kind
-use Rattle.par_pass_laws.specs.par_flow_laws.Declares.{Method, Thrown, declares}
-use Rattle.par_pass_laws.specs.par_flow_laws.Rules.{From, Entry, After, Tested}
-use Rattle.par_pass_laws.specs.par_flow_laws.Body.{past, args_past, args_tested}
+use Rattle.par_pass_laws.specs.par_program_laws.Kinds as kind
+use Rattle.par_pass_laws.specs.par_program_laws.Declares.{Method, Thrown, declares}
+use Rattle.par_pass_laws.specs.par_program_laws.Rules.{From, Entry, After, Tested}
+use Rattle.par_pass_laws.specs.par_program_laws.Body.{past, args_past, args_tested}
 use Rattle.par_check_laws.specs.Asked.{Condition, Open, Released, Worth, Joined, Context, Effect}
 use Rattle.par_check_laws.specs.Asked.{Among}
 use Rattle.par_check_laws.specs.Asked.{Never, Spot, Check}

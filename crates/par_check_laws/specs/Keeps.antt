@@ -2,11 +2,11 @@
 use Rattle.std.specs.Prelude.{ℕ, List, IsTrue, ◌++◌, map}
 use Rattle.std.specs.List.{filter, range_with_len}
 use Rattle.par_bits.specs.Sets.{Set, IsWithin}
-use Rattle.par_pass_laws.specs.par_flow_laws.Lattice.{Lattice, Seen, IsSeenBelow}
-use Rattle.par_pass_laws.specs.par_flow_laws.Ways.{Way}
-use Rattle.par_pass_laws.specs.par_flow_laws.Facts.{Facts}
-use Rattle.par_pass_laws.specs.par_flow_laws.Ranges.{MOST}
-use Rattle.par_pass_laws.specs.par_flow_laws.Rules.{way, Holds}
+use Rattle.par_pass_laws.specs.par_program_laws.Lattice.{Lattice, Seen, IsSeenBelow}
+use Rattle.par_pass_laws.specs.par_program_laws.Ways.{Way}
+use Rattle.par_pass_laws.specs.par_program_laws.Facts.{Facts}
+use Rattle.par_pass_laws.specs.par_program_laws.Ranges.{MOST}
+use Rattle.par_pass_laws.specs.par_program_laws.Rules.{way, Holds}
 use Rattle.par_check_laws.specs.Asked.{Condition, Open, Released, Worth, Joined, Context, Effect}
 use Rattle.par_check_laws.specs.Asked.{Among}
 use Rattle.par_check_laws.specs.Asked.{Never, Check}

@@ -2,10 +2,10 @@
 use Rattle.std.specs.Prelude.{Contains}
 use Rattle.par_pass_laws.specs.par_typed.declared.table.Table.{Table}
 use Rattle.par_pass_laws.specs.par_typed.Plain.{Body}
-use Rattle.par_pass_laws.specs.par_flow_laws.Lattice.{numbers}
-use Rattle.par_pass_laws.specs.par_flow_laws.Facts.{Facts}
-use Rattle.par_pass_laws.specs.par_flow_laws.Declares.{declares}
-use Rattle.par_pass_laws.specs.par_flow_laws.Closed.{IsClosed}
+use Rattle.par_pass_laws.specs.par_program_laws.Lattice.{numbers}
+use Rattle.par_pass_laws.specs.par_program_laws.Facts.{Facts}
+use Rattle.par_pass_laws.specs.par_program_laws.Declares.{declares}
+use Rattle.par_pass_laws.specs.par_program_laws.Closed.{IsClosed}
 use Rattle.par_pass_laws.specs.Result.{AreLeast}
 use Rattle.par_pass_laws.proofs.Instances.{seen}
 use Rattle.par_check_laws.specs.Asked.{Check}

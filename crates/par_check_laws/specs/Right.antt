@@ -2,11 +2,11 @@
 use Rattle.std.specs.Prelude.{List, [], ◌∷◌}
 use Rattle.par_pass_laws.specs.par_typed.declared.table.Table.{Table}
 use Rattle.par_pass_laws.specs.par_typed.Plain.{Body}
-use Rattle.par_pass_laws.specs.par_flow_laws.Lattice.{Seen, numbers}
-use Rattle.par_pass_laws.specs.par_flow_laws.Facts.{Facts}
-use Rattle.par_pass_laws.specs.par_flow_laws.Declares.{declares}
-use Rattle.par_pass_laws.specs.par_flow_laws.Body.{sta}
-use Rattle.par_pass_laws.specs.par_flow_laws.Closed.{IsClosed}
+use Rattle.par_pass_laws.specs.par_program_laws.Lattice.{Seen, numbers}
+use Rattle.par_pass_laws.specs.par_program_laws.Facts.{Facts}
+use Rattle.par_pass_laws.specs.par_program_laws.Declares.{declares}
+use Rattle.par_pass_laws.specs.par_program_laws.Body.{sta}
+use Rattle.par_pass_laws.specs.par_program_laws.Closed.{IsClosed}
 use Rattle.par_pass_laws.specs.Seens.{seen_as}
 use Rattle.par_pass_laws.specs.Possible.{HasPossibleExits}
 use Rattle.par_pass_laws.specs.Result.{AreLeast}

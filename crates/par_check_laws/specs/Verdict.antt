@@ -2,11 +2,11 @@
 use Rattle.std.specs.Prelude.{◌≡◌, ℕ, Contains, slice_get}
 use Rattle.par_pass_laws.specs.par_typed.declared.table.Table.{Table}
 use Rattle.par_pass_laws.specs.par_typed.Plain.{Body}
-use Rattle.par_pass_laws.specs.par_flow_laws.Lattice.{Lattice, Seen, policies, numbers, joined}
-use Rattle.par_pass_laws.specs.par_flow_laws.Lattice.{seen_by}
-use Rattle.par_pass_laws.specs.par_flow_laws.Facts.{Facts}
-use Rattle.par_pass_laws.specs.par_flow_laws.Declares.{declares}
-use Rattle.par_pass_laws.specs.par_flow_laws.Closed.{IsClosed}
+use Rattle.par_pass_laws.specs.par_program_laws.Lattice.{Lattice, Seen, policies, numbers, joined}
+use Rattle.par_pass_laws.specs.par_program_laws.Lattice.{seen_by}
+use Rattle.par_pass_laws.specs.par_program_laws.Facts.{Facts}
+use Rattle.par_pass_laws.specs.par_program_laws.Declares.{declares}
+use Rattle.par_pass_laws.specs.par_program_laws.Closed.{IsClosed}
 use Rattle.par_check_laws.specs.Asked.{Check}
 use Rattle.par_check_laws.specs.Checks.{checks}
 use Rattle.par_check_laws.specs.Keeps.{Keeps}

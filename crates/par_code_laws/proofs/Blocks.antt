@@ -25,9 +25,9 @@ use Rattle.par_code_form.specs.Code.{handlers, all_handlers}
 use Rattle.par_code_laws.proofs.Handlers.{outside, all_outside}
 use Rattle.par_evaluation_laws.proofs.Parts.{Setting}
 use Rattle.par_code_form.specs.Code.{Words, Loop, labels, code, all_code}
-use Rattle.par_evaluation_laws.specs.par_agreement_laws.Laid.{Layout, TypedS, TypedAll}
-use Rattle.par_evaluation_laws.specs.par_body_laws.Locals.{IsSet}
-use Rattle.par_evaluation_laws.specs.par_agreement_laws.Laid.{behind}
+use Rattle.par_evaluation_laws.specs.Laid.{Layout, TypedS, TypedAll}
+use Rattle.par_evaluation_laws.specs.par_program_laws.Locals.{IsSet}
+use Rattle.par_evaluation_laws.specs.Laid.{behind}
 use Rattle.par_code_laws.proofs.Spans.{grows, all_grows, all_lives, ends}
 use Rattle.par_evaluation_laws.proofs.Parts.{M, at, Fit, wider}
 use Rattle.par_code_laws.proofs.Exits.{Catches, Holds', Normally, Sides, alike, behind_more, less}

@@ -24,7 +24,7 @@ use Rattle.par_code_form.specs.declared.labelled.Handler.{Handler}
 use Rattle.par_evaluation_laws.specs.par_match_laws.Labelled.{Labelled, Naming, skip, silent}
 use Rattle.par_evaluation_laws.proofs.par_match_laws.Rules.{Told}
 use Rattle.par_evaluation_laws.proofs.par_match_laws.Steps.{Lives, Here, next, Distinct, on}
-use Rattle.par_evaluation_laws.specs.par_agreement_laws.Agreement.{Lays}
+use Rattle.par_evaluation_laws.specs.Agreement.{Lays}
 use Rattle.par_values.specs.Operations.{InvokeStatic, PutStatic}
 use Rattle.par_values.specs.declared.link.FieldLink.{FieldLink}
 use Rattle.par_values.specs.Areas.{first_value}
@@ -49,9 +49,9 @@ use Rattle.par_code_laws.proofs.Handlers.{outside, else_outside}
 use Rattle.par_code_laws.proofs.Spans.{goes_grows, goes_lives, goes_ends}
 use Rattle.par_evaluation_laws.proofs.Parts.{Setting}
 use Rattle.par_code_form.specs.Code.{Words, Loop, expr_labels, labels, code, else_code}
-use Rattle.par_evaluation_laws.specs.par_agreement_laws.Laid.{Layout, moved, HasType, TypedS}
-use Rattle.par_evaluation_laws.specs.par_agreement_laws.Laid.{TypedElse}
-use Rattle.par_evaluation_laws.specs.par_agreement_laws.Laid.{behind}
+use Rattle.par_evaluation_laws.specs.Laid.{Layout, moved, HasType, TypedS}
+use Rattle.par_evaluation_laws.specs.Laid.{TypedElse}
+use Rattle.par_evaluation_laws.specs.Laid.{behind}
 use Rattle.par_evaluation_laws.proofs.Lengths.{expr_ends, expr_grows}
 use Rattle.par_code_laws.proofs.Spans.{grows, else_grows, lives, else_lives, ends, else_ends}
 use Rattle.par_evaluation_laws.proofs.Parts.{with, M, at, Fit, wider, given}

@@ -1,5 +1,5 @@
 -- What is asked of the code of a statement: the machine at each of its exits.
-use Rattle.par_evaluation_laws.specs.par_agreement_laws.Laid.{IsThrown}
+use Rattle.par_evaluation_laws.specs.Laid.{IsThrown}
 use Rattle.std.proofs.Common.{◌≡◌, ℕ, suc, ◌+◌, ◌-◌, ◌≤◌, Bool, true, false, not, List, [], ◌∷◌}
 use Rattle.std.proofs.Common.{length, Option, refl, ap, sym, ◌∙◌, subst, arith}
 use Rattle.std.specs.Prelude.{pos, ◌-ℤ◌, ◌==◌, if◌then◌else◌, cond}
@@ -18,8 +18,8 @@ use Rattle.par_values.specs.Effects.{effect, jumps_if}
 use Rattle.par_run_laws.specs.State.{State}
 use Rattle.par_step_laws.specs.State as steps
 use Rattle.par_step_laws.specs.Step.{Turn}
-use Rattle.par_evaluation_laws.specs.par_engine_laws.Engine.{Program, turn}
-use Rattle.par_evaluation_laws.specs.par_engine_laws.Engine as gen
+use Rattle.par_evaluation_laws.specs.par_match_laws.Engine.{Program, turn}
+use Rattle.par_evaluation_laws.specs.par_match_laws.Engine as gen
 use Rattle.par_code_form.specs.declared.item.Item.{Item}
 use Rattle.par_code_form.specs.declared.item.Item.TheVariants.{Label, Jump}
 use Rattle.par_code_form.specs.declared.labelled.Handler.{Handler}
@@ -30,11 +30,11 @@ use Rattle.par_evaluation_laws.proofs.par_match_laws.Steps.{Lives, Here, next, D
 use Rattle.par_evaluation_laws.proofs.par_match_laws.Steps.{frame}
 use Rattle.par_evaluation_laws.proofs.par_match_laws.Steps.{on, jumps}
 use Rattle.par_evaluation_laws.proofs.par_match_laws.Steps.{target_is, stands_here}
-use Rattle.par_evaluation_laws.specs.par_agreement_laws.Agreement.{Lays}
+use Rattle.par_evaluation_laws.specs.Agreement.{Lays}
 use Rattle.par_values.specs.Operations.{InvokeStatic, PutStatic}
 use Rattle.par_values.specs.Operations.{operation}
 use Rattle.par_run_laws.specs.Values.{is_true}
-use Rattle.par_evaluation_laws.proofs.par_agreement_laws.Operators.{not_not}
+use Rattle.par_evaluation_laws.proofs.Operators.{not_not}
 use Rattle.std.proofs.lemmas.Bool.{or_right}
 use Rattle.par_typed.specs.Plain.{mark, TExp}
 use Rattle.par_typed.specs.Plain.{TSta, Block, If, While, Try, Return, Break, Continue, Throw, Open}
@@ -54,11 +54,11 @@ use Rattle.par_code_form.specs.Code.{goes_on}
 use Rattle.par_code_form.specs.Code.{handlers}
 use Rattle.par_evaluation_laws.proofs.Parts.{Setting, Enters, fails}
 use Rattle.par_code_form.specs.Code.{Words, Loop, is_void, expr_code, code}
-use Rattle.par_evaluation_laws.specs.par_agreement_laws.Laid.{Layout, moved, HasType, Typed}
-use Rattle.par_evaluation_laws.specs.par_body_laws.Locals.{IsSet}
-use Rattle.par_evaluation_laws.specs.par_agreement_laws.Laid.{TypedS}
-use Rattle.par_evaluation_laws.specs.par_agreement_laws.Laid.{behind, Accepts}
-use Rattle.par_evaluation_laws.proofs.par_agreement_laws.Good.{fit_less}
+use Rattle.par_evaluation_laws.specs.Laid.{Layout, moved, HasType, Typed}
+use Rattle.par_evaluation_laws.specs.par_program_laws.Locals.{IsSet}
+use Rattle.par_evaluation_laws.specs.Laid.{TypedS}
+use Rattle.par_evaluation_laws.specs.Laid.{behind, Accepts}
+use Rattle.par_evaluation_laws.proofs.Good.{fit_less}
 use Rattle.par_evaluation_laws.proofs.Parts.{with, not_void, Q, M, the_code, at, Fit, Within, wider}
 use Rattle.par_evaluation_laws.proofs.Parts.{after}
 use Rattle.par_evaluation_laws.proofs.Parts.{Ready, Handed, handed, given, thrown, Raises, Holds}

@@ -1,5 +1,5 @@
 -- The code of a statement without parts shows its run.
-use Rattle.par_evaluation_laws.specs.par_agreement_laws.Laid.{HasOwn, IsLock, IsMade}
+use Rattle.par_evaluation_laws.specs.Laid.{HasOwn, IsLock, IsMade}
 use Rattle.std.proofs.Common.{◌≡◌, ℕ, suc, ◌+◌, ◌-◌, ◌≤◌, ◌<◌, Bool, true, false, not, List, []}
 use Rattle.std.proofs.Common.{◌∷◌}
 use Rattle.std.proofs.Common.{length, Option, Some, None, refl, ap, sym, ◌∙◌, subst, arith, codes}
@@ -30,10 +30,10 @@ use Rattle.par_evaluation_laws.proofs.par_match_laws.Rules.{Told}
 use Rattle.par_evaluation_laws.proofs.par_match_laws.Steps.{Lives, Here, next, IsSound, P, on, says}
 use Rattle.par_evaluation_laws.proofs.par_match_laws.Steps.{leaves_turn}
 use Rattle.par_evaluation_laws.proofs.par_match_laws.Steps.{leaves_with_turn}
-use Rattle.par_evaluation_laws.specs.par_agreement_laws.Agreement.{Lays}
-use Rattle.par_evaluation_laws.proofs.par_agreement_laws.Good.{typed_on, class_fits, kind_fits}
-use Rattle.par_evaluation_laws.proofs.par_agreement_laws.Good.{born_thrown}
-use Rattle.par_evaluation_laws.proofs.par_agreement_laws.Values.{kind_in, store_is}
+use Rattle.par_evaluation_laws.specs.Agreement.{Lays}
+use Rattle.par_evaluation_laws.proofs.Good.{typed_on, class_fits, kind_fits}
+use Rattle.par_evaluation_laws.proofs.Good.{born_thrown}
+use Rattle.par_evaluation_laws.proofs.AgreeingValues.{kind_in, store_is}
 use Rattle.par_values.specs.Operations.{InvokeStatic, PutStatic}
 use Rattle.par_values.specs.declared.link.FieldLink.{FieldLink}
 use Rattle.par_values.specs.declared.link.ClassLink.{ClassLink}
@@ -67,16 +67,16 @@ use Rattle.par_run_laws.specs.State.{set_field, open_lock, close_lock}
 use Rattle.par_run_laws.specs.Tasks.{unless_null, tested}
 use Rattle.par_run_laws.specs.Meaning.{writes_field}
 use Rattle.par_evaluation_laws.proofs.par_match_laws.Steps.{hushed, object_turn}
-use Rattle.par_evaluation_laws.proofs.par_agreement_laws.Kept.{open_fit, close_fit, field_fit}
+use Rattle.par_evaluation_laws.proofs.Kept.{open_fit, close_fit, field_fit}
 use Rattle.par_code_form.specs.Code.{initializer as init_item}
 use Rattle.par_code_form.specs.Code.{handlers}
 use Rattle.par_evaluation_laws.proofs.Created.{init_ok}
 use Rattle.par_evaluation_laws.proofs.Parts.{Setting, fails}
 use Rattle.par_code_form.specs.Code.{Words, is_number, is_void, store, give_back, dropped}
 use Rattle.par_code_form.specs.Code.{expr_labels, expr_code, code}
-use Rattle.par_evaluation_laws.specs.par_agreement_laws.Laid.{Layout, moved, HasType, TypedS}
-use Rattle.par_evaluation_laws.specs.par_agreement_laws.Laid.{Accepts, kind_of}
-use Rattle.par_evaluation_laws.proofs.par_agreement_laws.Good.{set_fit, static_fit, value_shown}
+use Rattle.par_evaluation_laws.specs.Laid.{Layout, moved, HasType, TypedS}
+use Rattle.par_evaluation_laws.specs.Laid.{Accepts, kind_of}
+use Rattle.par_evaluation_laws.proofs.Good.{set_fit, static_fit, value_shown}
 use Rattle.par_evaluation_laws.proofs.Lengths.{expr_grows, expr_lives}
 use Rattle.par_evaluation_laws.proofs.Parts.{with, not_void, M, at, Fit, given, Raises}
 use Rattle.par_evaluation_laws.proofs.Parts.{kind_in_fits}

@@ -1,3 +1,11 @@
+mod Names
+mod Channels
+mod Tasks
+mod Exps
+mod Stas
+mod Bodies
+mod ErasedMethods
+pub mod ErasedRuns
 pub mod Spans
 pub mod Handlers
 pub mod Exits

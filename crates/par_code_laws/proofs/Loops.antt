@@ -11,7 +11,7 @@ use Rattle.par_values.specs.declared.value.MVal.TheVariants as value
 use Rattle.par_values.specs.Areas.{Name, Areas}
 use Rattle.par_run_laws.specs.State.{State}
 use Rattle.par_step_laws.specs.Step.{Turn}
-use Rattle.par_evaluation_laws.specs.par_engine_laws.Engine.{Program}
+use Rattle.par_evaluation_laws.specs.par_match_laws.Engine.{Program}
 use Rattle.par_code_form.specs.declared.item.Item.{Item}
 use Rattle.par_code_form.specs.declared.item.Item.TheVariants.{Label, Jump}
 use Rattle.par_code_form.specs.declared.labelled.Handler.{Handler}
@@ -44,7 +44,7 @@ use Rattle.par_code_laws.proofs.Handlers.{outside}
 use Rattle.par_code_laws.proofs.Spans.{goes_grows, goes_lives, goes_ends, test_ends}
 use Rattle.par_evaluation_laws.proofs.Parts.{Setting}
 use Rattle.par_code_form.specs.Code.{Words, Loop, expr_labels, code}
-use Rattle.par_evaluation_laws.specs.par_agreement_laws.Laid.{Layout, Typed, TypedS, behind}
+use Rattle.par_evaluation_laws.specs.Laid.{Layout, Typed, TypedS, behind}
 use Rattle.par_evaluation_laws.proofs.Lengths.{expr_ends, expr_grows, expr_lives}
 use Rattle.par_code_laws.proofs.Spans.{grows, lives, ends}
 use Rattle.par_evaluation_laws.proofs.Parts.{M, at, Fit, wider, given}

@@ -1,5 +1,5 @@
 -- A call of a method shows the run of its body.
-use Rattle.par_evaluation_laws.specs.par_agreement_laws.Laid.{HasMethod}
+use Rattle.par_evaluation_laws.specs.Laid.{HasMethod}
 use Rattle.std.proofs.Common.{◌≡◌, ℕ, zero, suc, ◌+◌, ◌-◌, ◌≤◌, ◌<◌, Bool, true, false, not, List}
 use Rattle.std.proofs.Common.{[], ◌∷◌, ◌++◌}
 use Rattle.std.proofs.Common.{length, map, replicate, Option, Some, None, refl, ap, sym, ◌∙◌, subst}
@@ -23,7 +23,7 @@ use Rattle.par_run_laws.specs.State.{State, restored, entered}
 use Rattle.par_run_laws.specs.Tasks.{Rests, leave, nothing}
 use Rattle.par_run_laws.specs.Meaning.{go, method, within}
 use Rattle.par_step_laws.specs.State as steps
-use Rattle.par_evaluation_laws.specs.par_engine_laws.Engine.{Program, turn}
+use Rattle.par_evaluation_laws.specs.par_match_laws.Engine.{Program, turn}
 use Rattle.par_code_form.specs.declared.item.Item.{Item}
 use Rattle.par_code_form.specs.declared.item.Item.TheVariants.{Op}
 use Rattle.par_code_form.specs.Code.{Words, ending, no_loop, body_code}
@@ -31,11 +31,11 @@ use Rattle.par_evaluation_laws.specs.par_match_laws.Labelled.{Labelled, Naming, 
 use Rattle.par_evaluation_laws.proofs.par_match_laws.Rules.{Matches, weaken, stopped_rule}
 use Rattle.par_evaluation_laws.proofs.par_match_laws.Steps.{Lives, Here, IsSound, P, here}
 use Rattle.par_evaluation_laws.proofs.par_match_laws.Steps.{leaves_turn}
-use Rattle.par_evaluation_laws.specs.par_agreement_laws.Laid.{Layout, Meth, moved, HasType}
-use Rattle.par_evaluation_laws.specs.par_body_laws.Locals.{IsSet}
-use Rattle.par_evaluation_laws.specs.par_agreement_laws.Laid.{given_types}
-use Rattle.par_evaluation_laws.specs.par_agreement_laws.Agreement.{Lays, Fine}
-use Rattle.par_evaluation_laws.proofs.par_agreement_laws.Kept.{entered_fit}
+use Rattle.par_evaluation_laws.specs.Laid.{Layout, Meth, moved, HasType}
+use Rattle.par_evaluation_laws.specs.par_program_laws.Locals.{IsSet}
+use Rattle.par_evaluation_laws.specs.Laid.{given_types}
+use Rattle.par_evaluation_laws.specs.Agreement.{Lays, Fine}
+use Rattle.par_evaluation_laws.proofs.Kept.{entered_fit}
 use Rattle.par_evaluation_laws.specs.Programs.{Inits, Coded, callee, first_set, given_kind}
 use Rattle.par_step_laws.specs.Step.{state_with}
 use Rattle.par_code_laws.proofs.Labels.{body_distinct}

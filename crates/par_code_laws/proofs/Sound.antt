@@ -19,8 +19,8 @@ use Rattle.par_evaluation_laws.specs.par_match_laws.Labelled.{covers}
 use Rattle.par_evaluation_laws.specs.par_match_laws.Labelled.{stands}
 use Rattle.par_evaluation_laws.proofs.par_match_laws.Steps.{Here, next, Distinct, target_is}
 use Rattle.par_evaluation_laws.proofs.par_match_laws.Steps.{stands_here}
-use Rattle.par_evaluation_laws.specs.par_agreement_laws.Laid.{Layout, TypedS, TypedElse, TypedAll}
-use Rattle.par_evaluation_laws.specs.par_agreement_laws.Laid.{TypedCatches}
+use Rattle.par_evaluation_laws.specs.Laid.{Layout, TypedS, TypedElse, TypedAll}
+use Rattle.par_evaluation_laws.specs.Laid.{TypedCatches}
 use Rattle.par_evaluation_laws.proofs.Lengths.{expr_ends}
 use Rattle.par_code_laws.proofs.Spans.{goes_ends, test_ends, ends}
 

@@ -1,5 +1,5 @@
 -- The code of a `try` and of its catches shows their run.
-use Rattle.par_evaluation_laws.specs.par_agreement_laws.Laid.{IsThrown}
+use Rattle.par_evaluation_laws.specs.Laid.{IsThrown}
 use Rattle.std.proofs.Common.{◌≡◌, ℕ, suc, ◌+◌, ◌-◌, ◌≤◌, ◌<◌, Bool, true, false, ◌||◌, List, []}
 use Rattle.std.proofs.Common.{◌∷◌}
 use Rattle.std.proofs.Common.{Option, Some, refl, ap, sym, ◌∙◌, subst, arith}
@@ -15,8 +15,8 @@ use Rattle.par_values.specs.Effects.{effect}
 use Rattle.par_run_laws.specs.State.{State}
 use Rattle.par_step_laws.specs.State as steps
 use Rattle.par_step_laws.specs.Step.{Turn}
-use Rattle.par_evaluation_laws.specs.par_engine_laws.Engine.{Program, turn}
-use Rattle.par_evaluation_laws.specs.par_engine_laws.Engine as gen
+use Rattle.par_evaluation_laws.specs.par_match_laws.Engine.{Program, turn}
+use Rattle.par_evaluation_laws.specs.par_match_laws.Engine as gen
 use Rattle.par_code_form.specs.declared.item.Item.{Item}
 use Rattle.par_code_form.specs.declared.item.Item.TheVariants.{Label, Op}
 use Rattle.par_code_form.specs.declared.labelled.Handler.{Handler}
@@ -25,7 +25,7 @@ use Rattle.par_evaluation_laws.proofs.par_match_laws.Rules.{Told}
 use Rattle.par_evaluation_laws.proofs.par_match_laws.Steps.{Lives, Here, next, Distinct, P, here}
 use Rattle.par_evaluation_laws.proofs.par_match_laws.Steps.{frame}
 use Rattle.par_evaluation_laws.proofs.par_match_laws.Steps.{on, target_is}
-use Rattle.par_evaluation_laws.specs.par_agreement_laws.Agreement.{Lays}
+use Rattle.par_evaluation_laws.specs.Agreement.{Lays}
 use Rattle.std.proofs.Common.{inl, inr, ◌⊎◌}
 use Rattle.std.proofs.lemmas.Bool.{or_right}
 use Rattle.par_instr.specs.declared.instr.Instr.TheVariants.{Pop}
@@ -43,14 +43,14 @@ use Rattle.par_run_laws.specs.Tasks.{caught}
 use Rattle.par_run_laws.specs.Meaning.{go_catch}
 use Rattle.par_evaluation_laws.proofs.par_match_laws.Rules.{next_rule}
 use Rattle.par_evaluation_laws.specs.par_match_laws.Labelled.{spot, handled}
-use Rattle.par_evaluation_laws.specs.par_agreement_laws.Laid.{TypedCatches}
+use Rattle.par_evaluation_laws.specs.Laid.{TypedCatches}
 use Rattle.par_code_form.specs.Code.{goes_on, catch_code}
 use Rattle.par_code_form.specs.Code.{handlers, catch_handlers}
 use Rattle.par_code_laws.proofs.Handlers.{outside, catch_outside, passed_over, covering}
 use Rattle.par_code_laws.proofs.Spans.{goes_grows, goes_lives, goes_ends, catch_grows, catch_ends}
 use Rattle.par_evaluation_laws.proofs.Parts.{Setting}
 use Rattle.par_code_form.specs.Code.{Words, Loop, labels, code}
-use Rattle.par_evaluation_laws.specs.par_agreement_laws.Laid.{Layout, TypedS, behind}
+use Rattle.par_evaluation_laws.specs.Laid.{Layout, TypedS, behind}
 use Rattle.par_code_laws.proofs.Spans.{grows, lives, ends}
 use Rattle.par_evaluation_laws.proofs.Parts.{with, M, at, Fit, wider}
 use Rattle.par_code_laws.proofs.Exits.{Catches, Holds', Normally, Sides, alike, behind_more}

@@ -28,14 +28,14 @@ use Rattle.par_run_laws.specs.Names.{main_of}
 use Rattle.par_run_laws.specs.Source.{start, run_of, final, uncaught}
 use Rattle.par_run_laws.proofs.Longer as longer
 use Rattle.par_step_laws.specs.Step.{Ends}
-use Rattle.par_evaluation_laws.specs.par_engine_laws.Engine.{Program, turn, run}
-use Rattle.par_evaluation_laws.specs.par_engine_laws.Engine as gen
+use Rattle.par_evaluation_laws.specs.par_match_laws.Engine.{Program, turn, run}
+use Rattle.par_evaluation_laws.specs.par_match_laws.Engine as gen
 use Rattle.par_code_form.specs.Code.{Words, body_code, ending, no_loop}
 use Rattle.par_evaluation_laws.specs.par_match_laws.Labelled.{Labelled, Naming, handled, stands}
 use Rattle.par_evaluation_laws.proofs.par_match_laws.Rules.{Told, Matches, onward, onward-run}
 use Rattle.par_evaluation_laws.proofs.par_match_laws.Rules.{ends_rule}
 use Rattle.par_evaluation_laws.proofs.par_match_laws.Steps.{Here, IsSound, P}
-use Rattle.par_evaluation_laws.specs.par_agreement_laws.Laid.{Layout, Meth, HasMethod, given_types}
+use Rattle.par_evaluation_laws.specs.Laid.{Layout, Meth, HasMethod, given_types}
 use Rattle.par_evaluation_laws.specs.Programs.{IsCompiled, begins, first_set}
 use Rattle.par_code_laws.specs.Laws.{ShowsRuns, Begins, LabelledCodeShows}
 use Rattle.par_code_laws.proofs.Labels.{body_distinct}
@@ -143,7 +143,7 @@ module _ (env : Naming) (labelled : ℕ → ℕ → Labelled) (mname : ℕ → �
 
     -- what is thrown out of the last method ends the run
     out_of : (k x n : ℕ) (v : MVal) (s : State) (b : Areas)
-        → Rattle.par_evaluation_laws.specs.par_agreement_laws.Laid.IsThrown lay x
+        → Rattle.par_evaluation_laws.specs.Laid.IsThrown lay x
         → Matches Mach k 1 (Rattle.par_step_laws.specs.Step.thrown_to env.names
         (value.Ref (lay.number x) n) (lay.number x) (gen.caught Mach (lay.number x) []) b) (final t (Thrown x) v s)
     unfolding gen.caught

@@ -10,11 +10,11 @@ use Rattle.par_secrecy.specs.Runs.{Run}
 use Rattle.par_secrecy.specs.Shows.{shown_run, IsFrontOf, IsFine}
 use Rattle.par_run_laws.specs.Names.{main_of}
 use Rattle.par_run_laws.specs.Source.{start, run_of}
-use Rattle.par_evaluation_laws.specs.par_engine_laws.Engine.{run}
+use Rattle.par_evaluation_laws.specs.par_match_laws.Engine.{run}
 use Rattle.par_code_form.specs.Code.{Words}
 use Rattle.par_evaluation_laws.specs.par_match_laws.Labelled.{Labelled, Naming, of_labelled}
-use Rattle.par_evaluation_laws.specs.par_agreement_laws.Laid.{Layout}
-use Rattle.par_evaluation_laws.specs.par_agreement_laws.Agreement.{Fine}
+use Rattle.par_evaluation_laws.specs.Laid.{Layout}
+use Rattle.par_evaluation_laws.specs.Agreement.{Fine}
 use Rattle.par_evaluation_laws.specs.Programs.{IsCompiled, begins}
 
 -- Runs of a machine by their numbers of instructions show those of a program by their steps: no

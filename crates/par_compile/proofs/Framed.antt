@@ -28,11 +28,11 @@ use Rattle.par_framing.specs.par_frames.Names.{whole_name, classes_of, StandsFor
 use Rattle.par_framing.specs.par_frames.Attribute.{IsAttribute, IsListed, AreSaid, first_locals}
 use Rattle.par_framing.proofs.par_frames.Classes.{kind_kept}
 use Rattle.par_framing.proofs.par_frames.Steps.{zip_kept}
-use Rattle.par_place_laws.specs.Named.{full_name}
-use Rattle.par_framing.specs.par_frame_laws.Framed as placed
-use Rattle.par_framing.specs.par_frame_laws.Framed.{TABLE, kinds_of, frames_of, IsTable}
-use Rattle.par_framing.specs.par_frame_laws.Framed.{AreAttributes}
-use Rattle.par_framing.specs.par_frame_laws.Framed.{IsPlacedWith, IsFramePart, IsConstantWith}
+use Rattle.par_code_form.specs.PoolNames.{full_name}
+use Rattle.par_framing.specs.par_compile_laws.Framed as placed
+use Rattle.par_framing.specs.par_compile_laws.Framed.{TABLE, kinds_of, frames_of, IsTable}
+use Rattle.par_framing.specs.par_compile_laws.Framed.{AreAttributes}
+use Rattle.par_framing.specs.par_compile_laws.Framed.{IsPlacedWith, IsFramePart, IsConstantWith}
 use Rattle.par_compile_laws.specs.Constants.{slot_class, frame_classes, named, framed}
 use Rattle.par_compile_laws.specs.Files.{IsCodeWith}
 use Rattle.par_class.specs.Spelling.{FitsCode}

@@ -5,7 +5,7 @@ use Rattle.std.specs.List.{AllByRecursion}
 use Rattle.par_pool.specs.Entries.{IsMethodAt}
 use Rattle.par_typed.specs.declared.table.ClassInfo.{ClassInfo}
 use Rattle.par_class.specs.declared.file.CodeAttr.{CodeAttr}
-use Rattle.par_place_laws.specs.Placed.{IsWritable}
+use Rattle.par_code_form.specs.Placed.{IsWritable}
 use Rattle.par_compile_laws.specs.Members.{above, initializer, initializer_of}
 use Rattle.par_compile_laws.specs.Files.{IsCodeWith}
 use Rattle.par_compile.specs.declared.draft.Draft.{Draft}

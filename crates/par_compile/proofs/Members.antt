@@ -15,7 +15,7 @@ use Rattle.par_code_form.specs.declared.labelled.Labelled.{Labelled}
 use Rattle.par_compile_laws.specs.Members.{Member, member_access}
 use Rattle.par_compile_laws.specs.Constants.{IsOfMayCode}
 use Rattle.par_compile_laws.specs.Files.{IsCode, IsCodeWith}
-use Rattle.par_framing.specs.par_frame_laws.Framed.{TABLE}
+use Rattle.par_framing.specs.par_compile_laws.Framed.{TABLE}
 use Rattle.par_compile.specs.declared.draft.Draft.{Draft}
 use Rattle.par_compile.specs.Growing.{Stays, Grows, IsEither, IsOfMembers}
 use Rattle.par_compile.specs.Drafts.{CodeFits, IsShort, IsPut, Puts, PutsMember}

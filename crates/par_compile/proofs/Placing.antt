@@ -21,14 +21,14 @@ use Rattle.par_typed.specs.declared.table.ClassInfo.{ClassInfo}
 use Rattle.par_code_form.specs.declared.labelled.Labelled.{Labelled}
 use Rattle.par_code_form.specs.declared.labelled.Slot.TheVariants as slot
 use Rattle.par_code_form.specs.Code.{initializer, initializer_code}
-use Rattle.par_place_laws.specs.Named.{IsConstantOf}
-use Rattle.par_place_laws.specs.Placed.{bytes_of, offset_of, IsWritable, IsPlaced}
+use Rattle.par_code_form.specs.PoolNames.{IsConstantOf}
+use Rattle.par_code_form.specs.Placed.{bytes_of, offset_of, IsWritable, IsPlaced}
 use Rattle.par_place.proofs.Growth.{named_kept, caught_kept, all_names_kept, all_catches_kept}
 use Rattle.par_compile_laws.specs.Members.{above, initializer_of}
 use Rattle.par_compile_laws.specs.Constants.{IsOfCode, named}
 use Rattle.par_compile_laws.specs.Files.{IsCodeWith}
 use Rattle.par_framing.specs.par_kinds.declared.frame.PlacedFrame.{PlacedFrame}
-use Rattle.par_framing.specs.par_frame_laws.Framed.{AreAttributes, frames_of}
+use Rattle.par_framing.specs.par_compile_laws.Framed.{AreAttributes, frames_of}
 use Rattle.par_framing.specs.Added.{AreSized}
 use Rattle.par_compile.specs.Drafts.{AreShort, CodeFits, IsShort}
 use Rattle.par_compile.specs.Growing.{Extends, Stays, Grows, IsOneCode, IsSuperCall}

@@ -20,9 +20,10 @@ use Rattle.par_typed.specs.declared.table.Table.{Table}
 use Rattle.par_typed.specs.Plain.{Body}
 use Rattle.par_typed.specs.Members.{methods_in, method_at}
 use Rattle.par_run_laws.specs.Names.{body_of}
-use Rattle.par_placeable_laws.specs.par_typed_laws.Limits.{TakesFew, HaveFewParams, IsLimitedClass}
-use Rattle.par_placeable_laws.specs.par_typed_laws.Sizes.{IsSmallOf, IsSmallBody}
-use Rattle.par_placeable_laws.specs.par_typed_laws.WellTyped.{IsWellTyped}
+use Rattle.par_source_code_laws.specs.par_typed_laws.Limits.{TakesFew, HaveFewParams}
+use Rattle.par_source_code_laws.specs.par_typed_laws.Limits.{IsLimitedClass}
+use Rattle.par_source_code_laws.specs.par_typed_laws.Sizes.{IsSmallOf, IsSmallBody}
+use Rattle.par_source_code_laws.specs.par_typed_laws.WellTyped.{IsWellTyped}
 use Rattle.par_code_form.specs.declared.labelled.Labelled.{Labelled}
 use Rattle.par_code_form.specs.declared.labelled.LabelFrame.{LabelFrame}
 use Rattle.par_code_form.specs.declared.labelled.Slot.{Slot}
@@ -30,9 +31,9 @@ use Rattle.par_code_form.specs.declared.labelled.Slot.TheVariants as slot
 use Rattle.par_code_form.specs.Code.{Words}
 use Rattle.par_code_form.specs.Method.{labelled}
 use Rattle.par_code_form.specs.Named.{words_of}
-use Rattle.par_place_laws.specs.Named.{entry_count}
-use Rattle.par_place_laws.specs.Placeable.{IsPlaceable}
-use Rattle.par_place_laws.specs.Framed.{AreFramesPlaceable}
+use Rattle.par_code_form.specs.PoolNames.{entry_count}
+use Rattle.par_code_form.specs.Placeable.{IsPlaceable}
+use Rattle.par_code_form.specs.PlaceableFrames.{AreFramesPlaceable}
 use Rattle.par_erase.specs.declared.program.PlainMethod.{PlainMethod}
 use Rattle.par_erase.specs.declared.program.PlainClass.{PlainClass}
 use Rattle.par_erase.specs.declared.program.Plain.{Plain}
@@ -45,10 +46,11 @@ use Rattle.par_erase.specs.Shown.{Name, does, channel_info, field_info, param_in
 use Rattle.par_erase.specs.Shown.{class_info, table_of, bodies_of, inputs_of}
 use Rattle.par_framing.specs.par_frames.Names.{whole_name, classes_of}
 use Rattle.par_framing.specs.par_frames.Room.{SPARE}
-use Rattle.par_framing.specs.par_frame_laws.Framed.{kinds_of, classes_in, frame_classes}
-use Rattle.par_placeable_laws.specs.Slots.{IsOfClass, IsOfClasses}
-use Rattle.par_placeable_laws.specs.Laws.{IsReadyBody, LabelledCodeIsPlaceable, WordsAreTexts}
-use Rattle.par_placeable_laws.specs.Laws.{NamesClasses, FramesNameClasses}
+use Rattle.par_framing.specs.par_compile_laws.Framed.{kinds_of, classes_in, frame_classes}
+use Rattle.par_source_code_laws.specs.Slots.{IsOfClass, IsOfClasses}
+use Rattle.par_source_code_laws.specs.PlaceableLaws.{IsReadyBody, LabelledCodeIsPlaceable}
+use Rattle.par_source_code_laws.specs.PlaceableLaws.{WordsAreTexts}
+use Rattle.par_source_code_laws.specs.PlaceableLaws.{NamesClasses, FramesNameClasses}
 use Rattle.par_source_code_laws.specs.Laws.{erased_body}
 use Rattle.par_source_code_laws.proofs.Bodies.{bodies_are_erased, found}
 use Rattle.par_compile.specs.Own.{IsMethodReady, IsReady, code_in, code_entries, methods_entries}

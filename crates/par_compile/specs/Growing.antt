@@ -9,10 +9,10 @@ use Rattle.par_pool.specs.Growth.{IsClassPart}
 use Rattle.par_values.specs.Areas.{Name}
 use Rattle.par_code_form.specs.declared.labelled.Labelled.{Labelled}
 use Rattle.par_code_form.specs.Code.{initializer}
-use Rattle.par_place_laws.specs.Named.{IsPartOf}
+use Rattle.par_code_form.specs.PoolNames.{IsPartOf}
 use Rattle.par_compile_laws.specs.Members.{Member, above}
 use Rattle.par_compile_laws.specs.Constants.{IsOfCode, IsOfField, IsOfMember}
-use Rattle.par_framing.specs.par_frame_laws.Framed.{TABLE}
+use Rattle.par_framing.specs.par_compile_laws.Framed.{TABLE}
 
 -- each index keeps its entry
 pub record Extends (old new : List Constant) : Type 0 where

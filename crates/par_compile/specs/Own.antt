@@ -7,9 +7,9 @@ use Rattle.par_base.specs.Names.{IsName}
 use Rattle.par_code_form.specs.declared.labelled.Labelled.{Labelled}
 use Rattle.par_code_form.specs.Method.{labelled}
 use Rattle.par_code_form.specs.Named.{words_of}
-use Rattle.par_place_laws.specs.Placeable.{IsPlaceable}
-use Rattle.par_place_laws.specs.Framed.{AreFramesPlaceable}
-use Rattle.par_framing.specs.par_frame_laws.Framed.{classes_with, entries_with}
+use Rattle.par_code_form.specs.Placeable.{IsPlaceable}
+use Rattle.par_code_form.specs.PlaceableFrames.{AreFramesPlaceable}
+use Rattle.par_framing.specs.par_compile_laws.Framed.{classes_with, entries_with}
 use Rattle.par_framing.specs.par_frames.Room.{HasRoom, SPARE}
 use Rattle.par_erase.specs.declared.program.PlainMethod.{PlainMethod}
 use Rattle.par_erase.specs.declared.program.PlainClass.{PlainClass}

@@ -3,7 +3,7 @@
 ghost use Rattle.std.specs.Prelude.{◌≡◌, ◌+◌, ◌<◌, ◌≤◌, [], ◌∷◌, ◌++◌, length, codes, IfOk, OnOk};
 ghost use Rattle.std.specs.Prelude.{IsTrue, Bool};
 ghost use Rattle.std.specs.List.{AllByRecursion};
-ghost use Rattle.par_place_laws.specs.Placed.{IsWritable};
+ghost use Rattle.par_code_form.specs.Placed.{IsWritable};
 ghost use Rattle.par_pool.specs.Entries.{IsMethodAt};
 ghost use Rattle.par_instr.specs.Spelling.{spelling, has_spelling, IsSpelled};
 ghost use Rattle.par_compile_laws.specs.Members.{above, initializer};

@@ -4,7 +4,7 @@ ghost use Rattle.std.specs.Prelude.{◌≡◌, ℕ, slice_get, Some, IfOk, OnOk,
 ghost use Rattle.std.specs.List.{All};
 ghost use Rattle.par_compile_laws.specs.Files.{FIRST_DECLARED};
 ghost use Rattle.par_typed.specs.Shown.{bodies};
-ghost use Rattle.par_placeable_laws.specs.par_typed_laws.WellTyped.{IsWellTyped};
+ghost use Rattle.par_source_code_laws.specs.par_typed_laws.WellTyped.{IsWellTyped};
 ghost use Rattle.par_erase.specs.Erased.{erased_table, erased_bodies};
 ghost use Rattle.par_erase.specs.Named as names;
 ghost use Rattle.par_erase.specs.Shown.{class_info, table_of, bodies_of};

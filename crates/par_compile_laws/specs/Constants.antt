@@ -9,12 +9,12 @@ use Rattle.par_pool.specs.declared.constant.Constant.{Constant}
 use Rattle.par_pool.specs.declared.constant.Constant.TheVariants.{Utf8}
 use Rattle.par_pool.specs.Growth.{IsClassPart}
 use Rattle.par_values.specs.Areas.{Name}
-use Rattle.par_frame_laws.specs.par_code_form.declared.labelled.Labelled.{Labelled}
-use Rattle.par_frame_laws.specs.par_code_form.declared.labelled.LabelFrame.{LabelFrame}
-use Rattle.par_frame_laws.specs.par_code_form.declared.labelled.Slot.{Slot}
-use Rattle.par_frame_laws.specs.par_code_form.declared.labelled.Slot.TheVariants as slot
-use Rattle.par_frame_laws.specs.par_code_form.Named.{descriptor}
-use Rattle.par_frame_laws.specs.par_place_laws.Named.{full_name, IsConstantOf}
+use Rattle.par_code_form.specs.declared.labelled.Labelled.{Labelled}
+use Rattle.par_code_form.specs.declared.labelled.LabelFrame.{LabelFrame}
+use Rattle.par_code_form.specs.declared.labelled.Slot.{Slot}
+use Rattle.par_code_form.specs.declared.labelled.Slot.TheVariants as slot
+use Rattle.par_code_form.specs.Named.{descriptor}
+use Rattle.par_code_form.specs.PoolNames.{full_name, IsConstantOf}
 use Rattle.par_compile_laws.specs.Members.{Member, above}
 
 -- the class that a local or an operand holds, if it holds one

@@ -9,16 +9,16 @@ use Rattle.par_run_laws.specs.par_typed.Plain.{Body}
 use Rattle.par_pool.specs.declared.reader.TheConstants.{LONGEST_CLASS}
 use Rattle.par_pool.specs.declared.constant.Constant.{Constant}
 use Rattle.par_pool.specs.Entries.{IsUtf8At, IsClassAt, IsDistinct}
-use Rattle.par_frame_laws.specs.par_class.declared.file.CodeAttr.{CodeAttr}
-use Rattle.par_frame_laws.specs.par_class.declared.file.FieldFile.{FieldFile}
-use Rattle.par_frame_laws.specs.par_class.declared.file.MethodFile.{MethodFile}
-use Rattle.par_frame_laws.specs.par_class.declared.file.ClassFile.{ClassFile}
-use Rattle.par_frame_laws.specs.par_class.Spelling.{Spells, layout}
-use Rattle.par_frame_laws.specs.par_class.Writing.{layout_of}
-use Rattle.par_frame_laws.specs.par_code_form.declared.labelled.Labelled.{Labelled}
-use Rattle.par_frame_laws.specs.par_code_form.Named.{descriptor}
-use Rattle.par_frame_laws.specs.par_place_laws.Placed.{IsPlaced}
-use Rattle.par_frame_laws.specs.Framed.{IsPlacedWith}
+use Rattle.par_code_form.specs.par_class.declared.file.CodeAttr.{CodeAttr}
+use Rattle.par_code_form.specs.par_class.declared.file.FieldFile.{FieldFile}
+use Rattle.par_code_form.specs.par_class.declared.file.MethodFile.{MethodFile}
+use Rattle.par_code_form.specs.par_class.declared.file.ClassFile.{ClassFile}
+use Rattle.par_code_form.specs.par_class.Spelling.{Spells, layout}
+use Rattle.par_code_form.specs.par_class.Writing.{layout_of}
+use Rattle.par_code_form.specs.declared.labelled.Labelled.{Labelled}
+use Rattle.par_code_form.specs.Named.{descriptor}
+use Rattle.par_code_form.specs.Placed.{IsPlaced}
+use Rattle.par_compile_laws.specs.Framed.{IsPlacedWith}
 use Rattle.par_compile_laws.specs.Members.{Member, CLASS_ACCESS, member_access, above, members}
 use Rattle.par_compile_laws.specs.Constants.{IsConstant}
 

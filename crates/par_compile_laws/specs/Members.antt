@@ -10,11 +10,11 @@ use Rattle.par_run_laws.specs.par_typed.declared.table.Table.{Table}
 use Rattle.par_run_laws.specs.par_typed.Plain.{TSta, Body}
 use Rattle.par_values.specs.Areas.{Name}
 use Rattle.par_run_laws.specs.Names.{body_of}
-use Rattle.par_frame_laws.specs.par_code_form.declared.labelled.Labelled.{Labelled}
-use Rattle.par_frame_laws.specs.par_code_form.declared.labelled.Slot.TheVariants as slot
-use Rattle.par_frame_laws.specs.par_code_form.Code.{initializer_code}
-use Rattle.par_frame_laws.specs.par_code_form.Method.{labelled}
-use Rattle.par_frame_laws.specs.par_code_form.Named.{method_descriptor, words_of}
+use Rattle.par_code_form.specs.declared.labelled.Labelled.{Labelled}
+use Rattle.par_code_form.specs.declared.labelled.Slot.TheVariants as slot
+use Rattle.par_code_form.specs.Code.{initializer_code}
+use Rattle.par_code_form.specs.Method.{labelled}
+use Rattle.par_code_form.specs.Named.{method_descriptor, words_of}
 
 abbrev pub CLASS_ACCESS : ℕ
 CLASS_ACCESS = 0x0031

@@ -19,28 +19,28 @@ use Rattle.par_values.specs.Effects.{Goes, Throws, effect, jumps_if}
 use Rattle.par_run_laws.specs.State.{State}
 use Rattle.par_run_laws.specs.Tasks.{Normal, Thrown, Rests, Task, gives, and_then, follow}
 use Rattle.par_run_laws.specs.Meaning.{Calls, eval}
-use Rattle.par_agreement_laws.specs.par_step_laws.State as steps
-use Rattle.par_agreement_laws.specs.par_step_laws.Step.{Turn}
-use Rattle.par_agreement_laws.specs.par_code_form.declared.item.Item.{Item}
-use Rattle.par_agreement_laws.specs.par_code_form.declared.item.Item.TheVariants.{Label, Op, Jump}
-use Rattle.par_agreement_laws.specs.par_match_laws.Labelled.{Labelled, Naming, lead, skip, target}
-use Rattle.par_agreement_laws.specs.par_match_laws.Labelled.{silent}
-use Rattle.par_agreement_laws.specs.par_match_laws.Labelled.{stands}
-use Rattle.par_agreement_laws.specs.par_code_form.Code.{Words, is_number, is_void, Shape}
-use Rattle.par_agreement_laws.specs.par_code_form.Code.{Calculates}
-use Rattle.par_agreement_laws.specs.par_code_form.Code.{Compares, Sames}
-use Rattle.par_agreement_laws.specs.par_code_form.Code.{Decides, between, shape_code}
-use Rattle.par_agreement_laws.specs.par_code_form.Code.{test_code, expr_code}
-use Rattle.par_agreement_laws.specs.Laid.{Layout, moved, HasType, OfShape, Typed}
-use Rattle.par_agreement_laws.proofs.par_match_laws.Rules.{Told, spent}
-use Rattle.par_agreement_laws.proofs.par_match_laws.Steps.{Lives, Here, next, Distinct, on, jumps}
-use Rattle.par_agreement_laws.proofs.par_match_laws.Steps.{target_is}
-use Rattle.par_agreement_laws.proofs.par_match_laws.Steps.{stands_here}
-use Rattle.par_agreement_laws.specs.Agreement.{Lays}
-use Rattle.par_agreement_laws.proofs.Good.{Grows, grows_same, grows_on, typed_on, number_is}
-use Rattle.par_agreement_laws.proofs.Good.{reference_is}
-use Rattle.par_agreement_laws.proofs.Good.{any_fits, IsReference}
-use Rattle.par_agreement_laws.proofs.Values.{same_moved}
+use Rattle.par_match_laws.specs.par_step_laws.State as steps
+use Rattle.par_match_laws.specs.par_step_laws.Step.{Turn}
+use Rattle.par_match_laws.specs.par_code_form.declared.item.Item.{Item}
+use Rattle.par_match_laws.specs.par_code_form.declared.item.Item.TheVariants.{Label, Op, Jump}
+use Rattle.par_match_laws.specs.Labelled.{Labelled, Naming, lead, skip, target}
+use Rattle.par_match_laws.specs.Labelled.{silent}
+use Rattle.par_match_laws.specs.Labelled.{stands}
+use Rattle.par_match_laws.specs.par_code_form.Code.{Words, is_number, is_void, Shape}
+use Rattle.par_match_laws.specs.par_code_form.Code.{Calculates}
+use Rattle.par_match_laws.specs.par_code_form.Code.{Compares, Sames}
+use Rattle.par_match_laws.specs.par_code_form.Code.{Decides, between, shape_code}
+use Rattle.par_match_laws.specs.par_code_form.Code.{test_code, expr_code}
+use Rattle.par_evaluation_laws.specs.Laid.{Layout, moved, HasType, OfShape, Typed}
+use Rattle.par_match_laws.proofs.Rules.{Told, spent}
+use Rattle.par_match_laws.proofs.Steps.{Lives, Here, next, Distinct, on, jumps}
+use Rattle.par_match_laws.proofs.Steps.{target_is}
+use Rattle.par_match_laws.proofs.Steps.{stands_here}
+use Rattle.par_evaluation_laws.specs.Agreement.{Lays}
+use Rattle.par_evaluation_laws.proofs.Good.{Grows, grows_same, grows_on, typed_on, number_is}
+use Rattle.par_evaluation_laws.proofs.Good.{reference_is}
+use Rattle.par_evaluation_laws.proofs.Good.{any_fits, IsReference}
+use Rattle.par_evaluation_laws.proofs.AgreeingValues.{same_moved}
 use Rattle.par_evaluation_laws.proofs.Lengths.{expr_grows, expr_lives}
 use Rattle.par_values.specs.Effects.{comes, combines}
 use Rattle.par_values.specs.Areas.{first_value}
@@ -48,16 +48,16 @@ use Rattle.par_values.specs.Arithmetic.{Operator}
 use Rattle.par_instr.specs.declared.instr.Instr.{Instr}
 use Rattle.par_instr.specs.declared.instr.Instr.TheVariants.{Dup, Pop}
 use Rattle.par_values.specs.Operations.{operation}
-use Rattle.par_agreement_laws.specs.par_match_laws.Labelled.{branch}
-use Rattle.par_agreement_laws.specs.par_code_form.Code.{same_opcode}
+use Rattle.par_match_laws.specs.Labelled.{branch}
+use Rattle.par_match_laws.specs.par_code_form.Code.{same_opcode}
 use Rattle.par_values.specs.declared.link.Link.TheVariants as link
 use Rattle.par_run_laws.specs.Tasks.{done, nothing}
 use Rattle.par_run_laws.specs.Tasks.{ARITHMETIC}
 use Rattle.par_run_laws.specs.Values.{decides, throws, applied, calculated, same}
 use Rattle.par_run_laws.specs.Meaning.{operates}
-use Rattle.par_agreement_laws.proofs.Operators.{Means}
+use Rattle.par_evaluation_laws.proofs.Operators.{Means}
 use Rattle.par_evaluation_laws.proofs.Lengths.{expr_ends}
-use Rattle.par_agreement_laws.specs.Laid.{below_second}
+use Rattle.par_evaluation_laws.specs.Laid.{below_second}
 use Rattle.par_evaluation_laws.proofs.Parts.{Setting}
 use Rattle.par_evaluation_laws.proofs.Parts.{with, not_void, M, at, Fit, Ready, Handed}
 use Rattle.par_evaluation_laws.proofs.Parts.{Raises, Holds, number_moved}

@@ -1,5 +1,5 @@
 -- Objects are made and their initializers run, and methods are called.
-use Rattle.par_agreement_laws.specs.Laid.{HasMethod, IsMade, IsThrown}
+use Rattle.par_evaluation_laws.specs.Laid.{HasMethod, IsMade, IsThrown}
 use Rattle.std.proofs.Common.{◌≡◌, ℕ, suc, ◌+◌, ◌-◌, ◌≤◌, ◌<◌, Bool, true, false, not, ◌&&◌, List}
 use Rattle.std.proofs.Common.{[], ◌∷◌}
 use Rattle.std.proofs.Common.{length, Option, Some, None, refl, ap, sym, ◌∙◌, subst, arith, codes}
@@ -24,22 +24,22 @@ use Rattle.par_values.specs.Effects.{Effect, Goes, Happens, Jumps, Throws, effec
 use Rattle.par_run_laws.specs.State.{State}
 use Rattle.par_run_laws.specs.Tasks.{Normal, Thrown, Rests}
 use Rattle.par_run_laws.specs.Meaning.{Calls}
-use Rattle.par_agreement_laws.specs.par_step_laws.State as steps
-use Rattle.par_agreement_laws.specs.par_step_laws.Step.{Turn, Silent, thrown_to, state_with}
-use Rattle.par_agreement_laws.specs.par_engine_laws.Engine.{Program, turn}
-use Rattle.par_agreement_laws.specs.par_engine_laws.Engine as gen
-use Rattle.par_agreement_laws.specs.par_code_form.declared.item.Item.{Item}
-use Rattle.par_agreement_laws.specs.par_code_form.declared.item.Item.TheVariants.{Op, Member}
-use Rattle.par_agreement_laws.specs.par_match_laws.Labelled.{Labelled, Naming, lead, skip, found}
-use Rattle.par_agreement_laws.specs.par_match_laws.Labelled.{silent}
-use Rattle.par_agreement_laws.specs.par_code_form.Code.{Words, is_void}
-use Rattle.par_agreement_laws.specs.par_code_form.Operands.{with_result}
-use Rattle.par_agreement_laws.specs.Laid.{Layout, moved, HasType, kind_of}
-use Rattle.par_agreement_laws.proofs.par_match_laws.Rules.{Told, weaken, spend_rule}
-use Rattle.par_agreement_laws.proofs.par_match_laws.Steps.{Lives, Here, next, P, here, frame, Can}
-use Rattle.par_agreement_laws.proofs.par_match_laws.Steps.{on}
-use Rattle.par_agreement_laws.specs.Agreement.{Lays}
-use Rattle.par_agreement_laws.proofs.Good.{class_fits, kind_fits}
+use Rattle.par_match_laws.specs.par_step_laws.State as steps
+use Rattle.par_match_laws.specs.par_step_laws.Step.{Turn, Silent, thrown_to, state_with}
+use Rattle.par_match_laws.specs.Engine.{Program, turn}
+use Rattle.par_match_laws.specs.Engine as gen
+use Rattle.par_match_laws.specs.par_code_form.declared.item.Item.{Item}
+use Rattle.par_match_laws.specs.par_code_form.declared.item.Item.TheVariants.{Op, Member}
+use Rattle.par_match_laws.specs.Labelled.{Labelled, Naming, lead, skip, found}
+use Rattle.par_match_laws.specs.Labelled.{silent}
+use Rattle.par_match_laws.specs.par_code_form.Code.{Words, is_void}
+use Rattle.par_match_laws.specs.par_code_form.Operands.{with_result}
+use Rattle.par_evaluation_laws.specs.Laid.{Layout, moved, HasType, kind_of}
+use Rattle.par_match_laws.proofs.Rules.{Told, weaken, spend_rule}
+use Rattle.par_match_laws.proofs.Steps.{Lives, Here, next, P, here, frame, Can}
+use Rattle.par_match_laws.proofs.Steps.{on}
+use Rattle.par_evaluation_laws.specs.Agreement.{Lays}
+use Rattle.par_evaluation_laws.proofs.Good.{class_fits, kind_fits}
 use Rattle.par_values.specs.Effects.{comes, is_same, combines}
 use Rattle.par_values.specs.Operations.{InvokeStatic}
 use Rattle.par_values.specs.Areas.{first_value}
@@ -64,21 +64,21 @@ use Rattle.par_values.specs.Areas.{first_locals}
 use Rattle.par_run_laws.specs.State.{restored, entered}
 use Rattle.par_run_laws.specs.Tasks.{leave}
 use Rattle.par_run_laws.specs.Meaning.{calls as calls_of}
-use Rattle.par_agreement_laws.specs.par_match_laws.Labelled.{calls}
-use Rattle.par_agreement_laws.proofs.par_match_laws.Rules.{next_rule}
-use Rattle.par_agreement_laws.proofs.par_match_laws.Steps.{on_wanting, enters_turn, past_is}
-use Rattle.par_agreement_laws.proofs.par_match_laws.Steps.{leaves_turn}
-use Rattle.par_agreement_laws.specs.Laid.{Meth, OfValues, given_types}
+use Rattle.par_match_laws.specs.Labelled.{calls}
+use Rattle.par_match_laws.proofs.Rules.{next_rule}
+use Rattle.par_match_laws.proofs.Steps.{on_wanting, enters_turn, past_is}
+use Rattle.par_match_laws.proofs.Steps.{leaves_turn}
+use Rattle.par_evaluation_laws.specs.Laid.{Meth, OfValues, given_types}
 use Rattle.std.proofs.Common.{reverse}
 use Rattle.std.proofs.lemmas.List.{append-nil}
 use Rattle.par_values.specs.Reasons.{all_fit}
-use Rattle.par_agreement_laws.proofs.Pushed.{pushed_is}
+use Rattle.par_evaluation_laws.proofs.Pushed.{pushed_is}
 use Rattle.std.proofs.Common.{◌++◌}
-use Rattle.par_agreement_laws.specs.Agreement.{initializer, init_target}
-use Rattle.par_agreement_laws.proofs.Kept.{left_fit}
-use Rattle.par_agreement_laws.proofs.Pushed.{pushed, pushed_taken, pushed_left, pushed_before}
-use Rattle.par_agreement_laws.proofs.Pushed.{pushed_length, EachFits, pushed_fit, each_length}
-use Rattle.par_agreement_laws.specs.par_code_form.Code.{initializer as init_item, initializer_code}
+use Rattle.par_evaluation_laws.specs.Agreement.{initializer, init_target}
+use Rattle.par_evaluation_laws.proofs.Kept.{left_fit}
+use Rattle.par_evaluation_laws.proofs.Pushed.{pushed, pushed_taken, pushed_left, pushed_before}
+use Rattle.par_evaluation_laws.proofs.Pushed.{pushed_length, EachFits, pushed_fit, each_length}
+use Rattle.par_match_laws.specs.par_code_form.Code.{initializer as init_item, initializer_code}
 use Rattle.par_evaluation_laws.specs.Programs.{Init, Inits, callee}
 use Rattle.par_evaluation_laws.proofs.Parts.{AllTyped}
 

@@ -16,27 +16,27 @@ use Rattle.par_values.specs.Areas.{Areas}
 use Rattle.par_run_laws.specs.State.{State}
 use Rattle.par_run_laws.specs.Tasks.{Rests, Task, follow}
 use Rattle.par_run_laws.specs.Meaning.{Calls, eval}
-use Rattle.par_agreement_laws.specs.par_step_laws.Step.{Turn}
-use Rattle.par_agreement_laws.specs.par_code_form.declared.item.Item.{Item}
-use Rattle.par_agreement_laws.specs.par_code_form.declared.item.Item.TheVariants.{Member}
-use Rattle.par_agreement_laws.specs.par_match_laws.Labelled.{Labelled, skip}
-use Rattle.par_agreement_laws.specs.par_code_form.Code.{Words, is_number, is_void}
-use Rattle.par_agreement_laws.specs.par_code_form.Code.{shape_of, shape_labels}
-use Rattle.par_agreement_laws.specs.par_code_form.Code.{expr_labels, expr_code}
-use Rattle.par_agreement_laws.specs.Laid.{Layout, moved, HasType, Typed}
-use Rattle.par_agreement_laws.proofs.par_match_laws.Rules.{Told}
-use Rattle.par_agreement_laws.proofs.par_match_laws.Steps.{Lives, Here}
-use Rattle.par_agreement_laws.proofs.Good.{Grows, grows_same, grows_on, typed_on}
+use Rattle.par_match_laws.specs.par_step_laws.Step.{Turn}
+use Rattle.par_match_laws.specs.par_code_form.declared.item.Item.{Item}
+use Rattle.par_match_laws.specs.par_code_form.declared.item.Item.TheVariants.{Member}
+use Rattle.par_match_laws.specs.Labelled.{Labelled, skip}
+use Rattle.par_match_laws.specs.par_code_form.Code.{Words, is_number, is_void}
+use Rattle.par_match_laws.specs.par_code_form.Code.{shape_of, shape_labels}
+use Rattle.par_match_laws.specs.par_code_form.Code.{expr_labels, expr_code}
+use Rattle.par_evaluation_laws.specs.Laid.{Layout, moved, HasType, Typed}
+use Rattle.par_match_laws.proofs.Rules.{Told}
+use Rattle.par_match_laws.proofs.Steps.{Lives, Here}
+use Rattle.par_evaluation_laws.proofs.Good.{Grows, grows_same, grows_on, typed_on}
 use Rattle.par_evaluation_laws.proofs.Lengths.{expr_grows}
 use Rattle.std.proofs.Common.{map}
 use Rattle.par_run_laws.specs.Tasks.{tested}
-use Rattle.par_agreement_laws.proofs.Operators.{means}
+use Rattle.par_evaluation_laws.proofs.Operators.{means}
 use Rattle.par_evaluation_laws.proofs.Created.{static_call, object_call}
 use Rattle.par_run_laws.specs.par_typed.Plain.{Absent, Present, TExps, NoExps, More}
 use Rattle.par_run_laws.specs.Meaning.{eval_all, calls as calls_of}
-use Rattle.par_agreement_laws.specs.par_code_form.Code.{args_code}
-use Rattle.par_agreement_laws.specs.Laid.{TypedArgs}
-use Rattle.par_agreement_laws.proofs.Pushed.{pushed}
+use Rattle.par_match_laws.specs.par_code_form.Code.{args_code}
+use Rattle.par_evaluation_laws.specs.Laid.{TypedArgs}
+use Rattle.par_evaluation_laws.proofs.Pushed.{pushed}
 use Rattle.par_evaluation_laws.proofs.Parts.{Setting, AllTyped}
 use Rattle.par_evaluation_laws.proofs.Lengths.{args_grows, args_lives}
 use Rattle.par_evaluation_laws.proofs.Parts.{not_void, M, at, Fit, Ready}

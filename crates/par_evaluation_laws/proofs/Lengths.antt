@@ -5,19 +5,19 @@ use Rattle.par_run_laws.specs.par_typed.declared.ty.Ty.{Ty}
 use Rattle.par_run_laws.specs.par_typed.Plain.{TExp, Int, Boolean, Null, This, New, Local, Static}
 use Rattle.par_run_laws.specs.par_typed.Plain.{Field, Input, Output, Call, Neg, Not, Binary}
 use Rattle.par_run_laws.specs.par_typed.Plain.{MayTExp, Absent, Present, TExps, NoExps, More}
-use Rattle.par_agreement_laws.specs.par_code_form.declared.item.Item.{Item}
-use Rattle.par_agreement_laws.specs.par_code_form.declared.item.Item.TheVariants.{Op, Member}
-use Rattle.par_agreement_laws.specs.par_match_laws.Labelled.{Labelled}
-use Rattle.par_agreement_laws.specs.par_code_form.Code.{Words, Shape, Calculates, Compares, Sames}
-use Rattle.par_agreement_laws.specs.par_code_form.Code.{Decides, is_number}
-use Rattle.par_agreement_laws.specs.par_code_form.Code.{load, store, shape_of, shape_labels}
-use Rattle.par_agreement_laws.specs.par_code_form.Code.{shape_code}
-use Rattle.par_agreement_laws.specs.par_code_form.Code.{between}
-use Rattle.par_agreement_laws.specs.par_code_form.Code.{test_code, expr_labels, expr_code}
-use Rattle.par_agreement_laws.specs.par_code_form.Code.{may_labels}
-use Rattle.par_agreement_laws.specs.par_code_form.Code.{may_code}
-use Rattle.par_agreement_laws.specs.par_code_form.Code.{args_code, invoke}
-use Rattle.par_agreement_laws.proofs.par_match_laws.Steps.{Lives, Here, next}
+use Rattle.par_match_laws.specs.par_code_form.declared.item.Item.{Item}
+use Rattle.par_match_laws.specs.par_code_form.declared.item.Item.TheVariants.{Op, Member}
+use Rattle.par_match_laws.specs.Labelled.{Labelled}
+use Rattle.par_match_laws.specs.par_code_form.Code.{Words, Shape, Calculates, Compares, Sames}
+use Rattle.par_match_laws.specs.par_code_form.Code.{Decides, is_number}
+use Rattle.par_match_laws.specs.par_code_form.Code.{load, store, shape_of, shape_labels}
+use Rattle.par_match_laws.specs.par_code_form.Code.{shape_code}
+use Rattle.par_match_laws.specs.par_code_form.Code.{between}
+use Rattle.par_match_laws.specs.par_code_form.Code.{test_code, expr_labels, expr_code}
+use Rattle.par_match_laws.specs.par_code_form.Code.{may_labels}
+use Rattle.par_match_laws.specs.par_code_form.Code.{may_code}
+use Rattle.par_match_laws.specs.par_code_form.Code.{args_code, invoke}
+use Rattle.par_match_laws.proofs.Steps.{Lives, Here, next}
 
 shape_grows : (s : Shape) (n : ℕ) (xs : List Item) → length xs < length (shape_code s n xs)
 shape_grows (Calculates o i) n xs = omega arith

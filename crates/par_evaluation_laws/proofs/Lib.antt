@@ -1,3 +1,8 @@
+pub mod Good
+pub mod Kept
+pub mod AgreeingValues
+pub mod Operators
+pub mod Pushed
 pub mod Lengths
 pub mod Parts
 pub mod Created
@@ -5,5 +10,4 @@ pub mod Values
 pub mod Primary
 pub mod Binary
 pub mod Exprs
-pub use Rattle.par_agreement_laws.proofs as par_agreement_laws
-pub use Rattle.par_agreement_laws.proofs.par_match_laws as par_match_laws
+pub use Rattle.par_match_laws.proofs as par_match_laws

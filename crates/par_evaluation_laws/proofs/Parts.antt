@@ -1,7 +1,7 @@
 -- The code of an expression shows its run.
 use Rattle.par_evaluation_laws.specs.Programs.{Inits, callee}
-use Rattle.par_agreement_laws.specs.par_step_laws.Step.{state_with, Turn, thrown_to}
-use Rattle.par_agreement_laws.specs.Laid.{HasMethod, IsThrown}
+use Rattle.par_match_laws.specs.par_step_laws.Step.{state_with, Turn, thrown_to}
+use Rattle.par_evaluation_laws.specs.Laid.{HasMethod, IsThrown}
 use Rattle.std.proofs.Common.{◌≡◌, ℕ, suc, ◌+◌, ◌≤◌, ◌<◌, Bool, true, false, not, List, [], ◌∷◌}
 use Rattle.std.proofs.Common.{length, Some, refl, ap, sym, ◌∙◌, subst, arith}
 use Rattle.std.specs.Prelude.{ℤ, pos, ◌-ℤ◌, cond}
@@ -25,35 +25,35 @@ use Rattle.par_run_laws.specs.Tasks.{Exit, Normal, Thrown, Rest, Rests, Task, pa
 use Rattle.par_run_laws.specs.Tasks.{follow}
 use Rattle.par_run_laws.specs.Meaning.{Calls, eval}
 use Rattle.par_run_laws.specs.Values.{truth}
-use Rattle.par_agreement_laws.specs.par_step_laws.State as steps
-use Rattle.par_agreement_laws.specs.par_engine_laws.Engine.{Program, turn}
-use Rattle.par_agreement_laws.specs.par_engine_laws.Engine as gen
-use Rattle.par_agreement_laws.specs.par_code_form.declared.item.Item.{Item}
-use Rattle.par_agreement_laws.specs.par_code_form.declared.item.Item.TheVariants.{Label, Op, Const}
-use Rattle.par_agreement_laws.specs.par_code_form.declared.item.Item.TheVariants.{Jump}
-use Rattle.par_agreement_laws.specs.par_match_laws.Labelled.{Labelled, Naming, lead, skip, target}
-use Rattle.par_agreement_laws.specs.par_match_laws.Labelled.{found}
-use Rattle.par_agreement_laws.specs.par_match_laws.Labelled.{silent, stands}
-use Rattle.par_agreement_laws.specs.par_code_form.Code.{Words, is_number, is_void, test_code}
-use Rattle.par_agreement_laws.specs.par_code_form.Code.{expr_code}
-use Rattle.par_agreement_laws.specs.Laid.{Layout, moved, HasType, Typed}
-use Rattle.par_agreement_laws.specs.par_body_laws.Locals.{IsSet}
-use Rattle.par_agreement_laws.proofs.par_match_laws.Rules.{Told, Matches, spend_rule, spent}
-use Rattle.par_agreement_laws.proofs.par_match_laws.Steps.{Lives, Here, next, Distinct, IsSound, P}
-use Rattle.par_agreement_laws.proofs.par_match_laws.Steps.{here}
-use Rattle.par_agreement_laws.proofs.par_match_laws.Steps.{frame, Can, on}
-use Rattle.par_agreement_laws.proofs.par_match_laws.Steps.{jumps, throws_turn, target_is}
-use Rattle.par_agreement_laws.proofs.par_match_laws.Steps.{stands_here}
-use Rattle.par_agreement_laws.specs.Agreement.{Lays, Fine}
-use Rattle.par_agreement_laws.proofs.Good.{Grows, grows_same, number_is, reference_is, any_fits}
-use Rattle.par_agreement_laws.proofs.Good.{born_thrown}
-use Rattle.par_agreement_laws.proofs.Values.{kind_in, load_is}
+use Rattle.par_match_laws.specs.par_step_laws.State as steps
+use Rattle.par_match_laws.specs.Engine.{Program, turn}
+use Rattle.par_match_laws.specs.Engine as gen
+use Rattle.par_match_laws.specs.par_code_form.declared.item.Item.{Item}
+use Rattle.par_match_laws.specs.par_code_form.declared.item.Item.TheVariants.{Label, Op, Const}
+use Rattle.par_match_laws.specs.par_code_form.declared.item.Item.TheVariants.{Jump}
+use Rattle.par_match_laws.specs.Labelled.{Labelled, Naming, lead, skip, target}
+use Rattle.par_match_laws.specs.Labelled.{found}
+use Rattle.par_match_laws.specs.Labelled.{silent, stands}
+use Rattle.par_match_laws.specs.par_code_form.Code.{Words, is_number, is_void, test_code}
+use Rattle.par_match_laws.specs.par_code_form.Code.{expr_code}
+use Rattle.par_evaluation_laws.specs.Laid.{Layout, moved, HasType, Typed}
+use Rattle.par_program_laws.specs.Locals.{IsSet}
+use Rattle.par_match_laws.proofs.Rules.{Told, Matches, spend_rule, spent}
+use Rattle.par_match_laws.proofs.Steps.{Lives, Here, next, Distinct, IsSound, P}
+use Rattle.par_match_laws.proofs.Steps.{here}
+use Rattle.par_match_laws.proofs.Steps.{frame, Can, on}
+use Rattle.par_match_laws.proofs.Steps.{jumps, throws_turn, target_is}
+use Rattle.par_match_laws.proofs.Steps.{stands_here}
+use Rattle.par_evaluation_laws.specs.Agreement.{Lays, Fine}
+use Rattle.par_evaluation_laws.proofs.Good.{Grows, grows_same, number_is, reference_is, any_fits}
+use Rattle.par_evaluation_laws.proofs.Good.{born_thrown}
+use Rattle.par_evaluation_laws.proofs.AgreeingValues.{kind_in, load_is}
 use Rattle.par_values.specs.Reasons.{holds}
 use Rattle.std.proofs.Common.{map}
 use Rattle.par_values.specs.Areas.{first_locals}
 use Rattle.par_run_laws.specs.State.{restored, entered}
 use Rattle.par_run_laws.specs.Tasks.{leave}
-use Rattle.par_agreement_laws.specs.Laid.{Meth, given_types}
+use Rattle.par_evaluation_laws.specs.Laid.{Meth, given_types}
 
 pub effects : (ns : List Name) (a : Areas) (n : ℤ)
     → effect ns (Push n) a ≡ Goes (areas.push (value.Int n) a)

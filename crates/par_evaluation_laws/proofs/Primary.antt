@@ -1,5 +1,5 @@
 -- The code of what is read, written and made shows its run.
-use Rattle.par_agreement_laws.specs.Laid.{HasOwn, IsMade}
+use Rattle.par_evaluation_laws.specs.Laid.{HasOwn, IsMade}
 use Rattle.std.proofs.Common.{ℕ, suc, ◌+◌, ◌<◌, true, false, not, List, []}
 use Rattle.std.proofs.Common.{◌∷◌}
 use Rattle.std.proofs.Common.{length, refl, ap, sym, ◌∙◌, subst, arith, codes}
@@ -25,21 +25,21 @@ use Rattle.par_run_laws.specs.State.{State}
 use Rattle.par_run_laws.specs.Tasks.{Normal, Rests, gives, follow}
 use Rattle.par_run_laws.specs.Meaning.{eval}
 use Rattle.par_run_laws.specs.Values.{truth}
-use Rattle.par_agreement_laws.specs.par_step_laws.State as steps
-use Rattle.par_agreement_laws.specs.par_step_laws.Step.{Turn}
-use Rattle.par_agreement_laws.specs.par_code_form.declared.item.Item.{Item}
-use Rattle.par_agreement_laws.specs.par_code_form.declared.item.Item.TheVariants.{Op, Member}
-use Rattle.par_agreement_laws.specs.par_code_form.declared.item.Item.TheVariants.{ClassOp}
-use Rattle.par_agreement_laws.specs.par_match_laws.Labelled.{Labelled, Naming, lead, skip, target}
-use Rattle.par_agreement_laws.specs.par_match_laws.Labelled.{silent}
-use Rattle.par_agreement_laws.specs.par_code_form.Code.{Words, is_void}
-use Rattle.par_agreement_laws.specs.par_code_form.Code.{test_code, expr_code}
-use Rattle.par_agreement_laws.specs.Laid.{Layout, moved, HasType, Typed, kind_of}
-use Rattle.par_agreement_laws.proofs.par_match_laws.Rules.{Told}
-use Rattle.par_agreement_laws.proofs.par_match_laws.Steps.{Lives, Here, next, on, says}
-use Rattle.par_agreement_laws.specs.Agreement.{Lays}
-use Rattle.par_agreement_laws.proofs.Good.{grows_same, grows_on, reference_is}
-use Rattle.par_agreement_laws.proofs.Good.{any_fits, class_fits}
+use Rattle.par_match_laws.specs.par_step_laws.State as steps
+use Rattle.par_match_laws.specs.par_step_laws.Step.{Turn}
+use Rattle.par_match_laws.specs.par_code_form.declared.item.Item.{Item}
+use Rattle.par_match_laws.specs.par_code_form.declared.item.Item.TheVariants.{Op, Member}
+use Rattle.par_match_laws.specs.par_code_form.declared.item.Item.TheVariants.{ClassOp}
+use Rattle.par_match_laws.specs.Labelled.{Labelled, Naming, lead, skip, target}
+use Rattle.par_match_laws.specs.Labelled.{silent}
+use Rattle.par_match_laws.specs.par_code_form.Code.{Words, is_void}
+use Rattle.par_match_laws.specs.par_code_form.Code.{test_code, expr_code}
+use Rattle.par_evaluation_laws.specs.Laid.{Layout, moved, HasType, Typed, kind_of}
+use Rattle.par_match_laws.proofs.Rules.{Told}
+use Rattle.par_match_laws.proofs.Steps.{Lives, Here, next, on, says}
+use Rattle.par_evaluation_laws.specs.Agreement.{Lays}
+use Rattle.par_evaluation_laws.proofs.Good.{grows_same, grows_on, reference_is}
+use Rattle.par_evaluation_laws.proofs.Good.{any_fits, class_fits}
 use Rattle.par_evaluation_laws.proofs.Lengths.{expr_grows}
 use Rattle.par_values.specs.Operations.{InvokeStatic}
 use Rattle.par_values.specs.declared.link.FieldLink.{FieldLink}
@@ -57,13 +57,13 @@ use Rattle.par_run_laws.specs.Tasks.{named}
 use Rattle.par_run_laws.specs.Values.{is_true}
 use Rattle.par_run_laws.specs.Values.{object_number}
 use Rattle.par_run_laws.specs.Meaning.{outputs, born}
-use Rattle.par_agreement_laws.proofs.Operators.{not_not}
-use Rattle.par_agreement_laws.specs.par_match_laws.Labelled.{calls}
+use Rattle.par_evaluation_laws.proofs.Operators.{not_not}
+use Rattle.par_match_laws.specs.Labelled.{calls}
 use Rattle.std.proofs.Common.{inl}
-use Rattle.par_agreement_laws.specs.par_code_form.Code.{initializer as init_item}
+use Rattle.par_match_laws.specs.par_code_form.Code.{initializer as init_item}
 use Rattle.par_evaluation_laws.proofs.Created.{init_ok}
 use Rattle.par_evaluation_laws.proofs.Parts.{Setting}
-use Rattle.par_agreement_laws.proofs.Good.{taken_fit, born_fit, born_grows, put_here}
+use Rattle.par_evaluation_laws.proofs.Good.{taken_fit, born_fit, born_grows, put_here}
 use Rattle.par_evaluation_laws.proofs.Parts.{with, not_void, M, at, Fit, Handed}
 use Rattle.par_evaluation_laws.proofs.Parts.{Raises, Holds, number_moved, loads}
 use Rattle.par_evaluation_laws.proofs.Parts.{fails}

@@ -15,23 +15,23 @@ use Rattle.par_values.specs.Effects.{Goes, effect, jumps_if}
 use Rattle.par_run_laws.specs.State.{State}
 use Rattle.par_run_laws.specs.Tasks.{Normal, Thrown, Rests}
 use Rattle.par_run_laws.specs.Values.{truth}
-use Rattle.par_agreement_laws.specs.par_step_laws.State as steps
-use Rattle.par_agreement_laws.specs.par_step_laws.Step.{Turn}
-use Rattle.par_agreement_laws.specs.par_code_form.declared.item.Item.{Item}
-use Rattle.par_agreement_laws.specs.par_match_laws.Labelled.{Labelled, Naming, lead, skip, target}
-use Rattle.par_agreement_laws.specs.par_match_laws.Labelled.{found}
-use Rattle.par_agreement_laws.specs.par_match_laws.Labelled.{silent}
-use Rattle.par_agreement_laws.specs.par_code_form.Code.{Words, is_number, is_void}
-use Rattle.par_agreement_laws.specs.par_code_form.Code.{test_code}
-use Rattle.par_agreement_laws.specs.Laid.{Layout, moved, HasType}
-use Rattle.par_agreement_laws.proofs.par_match_laws.Rules.{Told, weaken, spend_rule, spent}
-use Rattle.par_agreement_laws.proofs.par_match_laws.Steps.{Lives, Here, Distinct, Can, on}
-use Rattle.par_agreement_laws.specs.Agreement.{Lays}
-use Rattle.par_agreement_laws.proofs.Good.{Grows, grows_on, number_is}
-use Rattle.par_agreement_laws.proofs.Good.{kind_fits}
+use Rattle.par_match_laws.specs.par_step_laws.State as steps
+use Rattle.par_match_laws.specs.par_step_laws.Step.{Turn}
+use Rattle.par_match_laws.specs.par_code_form.declared.item.Item.{Item}
+use Rattle.par_match_laws.specs.Labelled.{Labelled, Naming, lead, skip, target}
+use Rattle.par_match_laws.specs.Labelled.{found}
+use Rattle.par_match_laws.specs.Labelled.{silent}
+use Rattle.par_match_laws.specs.par_code_form.Code.{Words, is_number, is_void}
+use Rattle.par_match_laws.specs.par_code_form.Code.{test_code}
+use Rattle.par_evaluation_laws.specs.Laid.{Layout, moved, HasType}
+use Rattle.par_match_laws.proofs.Rules.{Told, weaken, spend_rule, spent}
+use Rattle.par_match_laws.proofs.Steps.{Lives, Here, Distinct, Can, on}
+use Rattle.par_evaluation_laws.specs.Agreement.{Lays}
+use Rattle.par_evaluation_laws.proofs.Good.{Grows, grows_on, number_is}
+use Rattle.par_evaluation_laws.proofs.Good.{kind_fits}
 use Rattle.par_run_laws.specs.Values.{same}
 use Rattle.std.proofs.Common.{inl, inr}
-use Rattle.par_agreement_laws.specs.Laid.{Accepts}
+use Rattle.par_evaluation_laws.specs.Laid.{Accepts}
 use Rattle.par_evaluation_laws.proofs.Parts.{Setting}
 use Rattle.par_evaluation_laws.proofs.Parts.{with, Q, M, at, Fit, wider, Ready, Handed, handed}
 use Rattle.par_evaluation_laws.proofs.Parts.{given, thrown, Raises, tests}

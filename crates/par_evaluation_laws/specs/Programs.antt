@@ -6,21 +6,21 @@ use Rattle.par_run_laws.specs.par_typed.declared.ty.Ty.{Ty}
 use Rattle.par_run_laws.specs.par_typed.declared.ty.Ty.TheVariants as ty
 use Rattle.par_run_laws.specs.par_typed.declared.table.Table.{Table}
 use Rattle.par_run_laws.specs.par_typed.Plain.{Body}
-use Rattle.par_agreement_laws.specs.par_completes.Typed.{completes}
+use Rattle.par_match_laws.specs.par_completes.Typed.{completes}
 use Rattle.par_values.specs.declared.kind.Kind.{Kind}
 use Rattle.par_values.specs.declared.value.MVal.{MVal}
 use Rattle.par_values.specs.Areas.{Name, Areas, first_locals}
 use Rattle.par_run_laws.specs.Names.{body_of, main_of}
-use Rattle.par_agreement_laws.specs.par_step_laws.State.{Frame, State, entered}
-use Rattle.par_agreement_laws.specs.par_step_laws.Step.{state_with}
-use Rattle.par_agreement_laws.specs.par_engine_laws.Engine.{Program}
-use Rattle.par_agreement_laws.specs.par_code_form.Code.{Words, is_void, body_code, body_handlers}
-use Rattle.par_agreement_laws.specs.par_code_form.Code.{initializer_code}
-use Rattle.par_agreement_laws.specs.par_match_laws.Labelled.{Labelled, Naming}
-use Rattle.par_agreement_laws.specs.Laid.{Layout, Meth, HasMethod, IsMade, IsThrown, TypedS}
-use Rattle.par_agreement_laws.specs.Laid.{given_types}
-use Rattle.par_agreement_laws.specs.Laid.{kind_of}
-use Rattle.par_agreement_laws.specs.Agreement.{Lays}
+use Rattle.par_match_laws.specs.par_step_laws.State.{Frame, State, entered}
+use Rattle.par_match_laws.specs.par_step_laws.Step.{state_with}
+use Rattle.par_match_laws.specs.Engine.{Program}
+use Rattle.par_match_laws.specs.par_code_form.Code.{Words, is_void, body_code, body_handlers}
+use Rattle.par_match_laws.specs.par_code_form.Code.{initializer_code}
+use Rattle.par_match_laws.specs.Labelled.{Labelled, Naming}
+use Rattle.par_evaluation_laws.specs.Laid.{Layout, Meth, HasMethod, IsMade, IsThrown, TypedS}
+use Rattle.par_evaluation_laws.specs.Laid.{given_types}
+use Rattle.par_evaluation_laws.specs.Laid.{kind_of}
+use Rattle.par_evaluation_laws.specs.Agreement.{Lays}
 
 -- ---- frames
 

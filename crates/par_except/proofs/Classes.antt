@@ -3,11 +3,11 @@ use Rattle.std.proofs.Common.{◌≡◌, ℕ, Bool, true, false, cond, nat_eq, O
 use Rattle.std.proofs.Common.{◌∷◌, ◌++◌, refl, sym, ap, ◌∙◌}
 use Rattle.std.proofs.lemmas.Bool.{eqb-true}
 use Rattle.std.proofs.Common.{eq-eqb}
-use Rattle.par_flow_laws.specs.Lattice.{numbers}
-use Rattle.par_flow_laws.specs.Ways as rules
+use Rattle.par_program_laws.specs.Lattice.{numbers}
+use Rattle.par_program_laws.specs.Ways as rules
 use Rattle.par_except.specs.Joins.{may_join}
-use Rattle.par_flow_laws.specs.Kinds as kind
-use Rattle.par_flow_laws.specs.Kinds.{Kind, same}
+use Rattle.par_program_laws.specs.Kinds as kind
+use Rattle.par_program_laws.specs.Kinds.{Kind, same}
 use Rattle.par_except.specs.declared.ways.Ways.{Ways}
 use Rattle.par_except.specs.Seen.{may_see}
 use Rattle.par_except.specs.Exits.{Throw, thrown, seen_throws, exit, AreOnce}

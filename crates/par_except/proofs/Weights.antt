@@ -5,8 +5,8 @@ use Rattle.std.specs.Prelude.{IsTrue}
 use Rattle.par_bits.specs.Sets.{Set, has, union, meet, IsWithin, size}
 use Rattle.par_bits.proofs.Sizes.{size_grows, size_grows_by_member, size_at_most}
 use Rattle.par_except.specs.Weight.{IsSmall, left, all_left, weight}
-use Rattle.par_flow_laws.specs.Lattice.{numbers}
-use Rattle.par_flow_laws.specs.Ways.{Flows}
+use Rattle.par_program_laws.specs.Lattice.{numbers}
+use Rattle.par_program_laws.specs.Ways.{Flows}
 use Rattle.par_except.specs.declared.way.Way.{Way}
 use Rattle.par_except.specs.Joins.{join}
 use Rattle.par_except.specs.Seen.{seen, locals}

@@ -1,9 +1,9 @@
 -- The exits that are kept, by kind.
 use Rattle.std.specs.Prelude.{◌≡◌, ℕ, All, cond, nat_eq, Option, Some, None, List, [], ◌∷◌}
-use Rattle.par_flow_laws.specs.Lattice.{numbers}
-use Rattle.par_flow_laws.specs.Kinds as kind
-use Rattle.par_flow_laws.specs.Kinds.{Kind}
-use Rattle.par_flow_laws.specs.Ways as rules
+use Rattle.par_program_laws.specs.Lattice.{numbers}
+use Rattle.par_program_laws.specs.Kinds as kind
+use Rattle.par_program_laws.specs.Kinds.{Kind}
+use Rattle.par_program_laws.specs.Ways as rules
 use Rattle.par_except.specs.declared.way.Way.{Way}
 use Rattle.par_except.specs.declared.ways.Ways.{Ways}
 use Rattle.par_except.specs.Seen.{seen, may_see, HasLocals, MayHaveLocals}

@@ -1,8 +1,8 @@
 -- Joins of ways whose policies are sets of numbers.
 use Rattle.std.specs.Prelude.{Option, Some, None}
 use Rattle.par_bits.specs.Sets.{union, meet}
-use Rattle.par_flow_laws.specs.Lattice.{numbers}
-use Rattle.par_flow_laws.specs.Ways.{Way}
+use Rattle.par_program_laws.specs.Lattice.{numbers}
+use Rattle.par_program_laws.specs.Ways.{Way}
 
 -- the least way that both flow into
 abbrev pub join : Way numbers → Way numbers → Way numbers

@@ -1,8 +1,8 @@
 -- What the kept ways mean.
 use Rattle.std.specs.Prelude.{◌≡◌, ℕ, Option, Some, None, List, [], ◌∷◌, zero, suc, length}
 use Rattle.par_bits.specs.Sets.{Set, none, has}
-use Rattle.par_flow_laws.specs.Lattice.{numbers}
-use Rattle.par_flow_laws.specs.Ways as rules
+use Rattle.par_program_laws.specs.Lattice.{numbers}
+use Rattle.par_program_laws.specs.Ways as rules
 use Rattle.par_except.specs.declared.way.Way.{Way}
 
 -- the sets that a list has for the locals; a local behind its end has none

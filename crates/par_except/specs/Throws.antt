@@ -1,7 +1,7 @@
 -- Throws of two parts, joined class by class, and throws without a class.
 use Rattle.std.specs.Prelude.{ℕ, cond, nat_eq, Option, Some, None, List, [], ◌∷◌, ◌++◌}
-use Rattle.par_flow_laws.specs.Lattice.{numbers}
-use Rattle.par_flow_laws.specs.Ways as rules
+use Rattle.par_program_laws.specs.Lattice.{numbers}
+use Rattle.par_program_laws.specs.Ways as rules
 use Rattle.par_except.specs.Joins.{join}
 use Rattle.par_except.specs.Exits.{Throw, thrown}
 

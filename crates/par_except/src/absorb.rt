@@ -1,7 +1,7 @@
 // Exits that a catch or a loop takes for itself.
 ghost use Rattle.std.specs.Prelude.{◌≡◌, ℕ, cond, IfOk, None};
-ghost use Rattle.par_flow_laws.specs.Kinds as kind;
-ghost use Rattle.par_flow_laws.specs.Kinds.{Kind, same};
+ghost use Rattle.par_program_laws.specs.Kinds as kind;
+ghost use Rattle.par_program_laws.specs.Kinds.{Kind, same};
 ghost use Rattle.par_except.specs.Seen.{may_see, MayHaveLocals};
 ghost use Rattle.par_except.specs.Exits.{exit, seen_throws, thrown, AreOnce, HaveLocals};
 
@@ -9,7 +9,7 @@ use crate::merge::copy;
 use crate::throws;
 use crate::way::Way;
 use crate::ways::Ways;
-use par_flow_laws::par_base::memory::NoMemory;
+use par_program_laws::par_base::memory::NoMemory;
 use std::alloc::Global;
 
 fn taken(alloc: Global, ways: &Ways, class: u16) -> Result<Option<Way>, NoMemory>

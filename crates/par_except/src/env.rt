@@ -4,8 +4,8 @@ ghost use Rattle.par_bits.specs.Sets.{union};
 ghost use Rattle.par_except.specs.Seen.{locals};
 
 use par_atoms::Atoms;
-use par_flow_laws::par_base::list::List;
-use par_flow_laws::par_base::memory::NoMemory;
+use par_program_laws::par_base::list::List;
+use par_program_laws::par_base::memory::NoMemory;
 use std::alloc::Global;
 
 /// A list of the same policies.

@@ -1,6 +1,6 @@
 // Exits of two parts, joined.
 ghost use Rattle.std.specs.Prelude.{◌≡◌, ℕ, IfOk, Some, None};
-ghost use Rattle.par_flow_laws.specs.Kinds.{Kind};
+ghost use Rattle.par_program_laws.specs.Kinds.{Kind};
 ghost use Rattle.par_except.specs.Joins.{may_join};
 ghost use Rattle.par_except.specs.Seen.{may_see, MayHaveLocals};
 ghost use Rattle.par_except.specs.Exits.{exit, seen_throws, thrown, AreOnce, HaveLocals};
@@ -9,7 +9,7 @@ ghost use Rattle.par_except.specs.Throws.{both};
 use crate::throws;
 use crate::way::Way;
 use crate::ways::Ways;
-use par_flow_laws::par_base::memory::NoMemory;
+use par_program_laws::par_base::memory::NoMemory;
 use std::alloc::Global;
 
 /// A copy of the way, if there is one.

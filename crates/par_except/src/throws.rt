@@ -6,8 +6,8 @@ ghost use Rattle.par_except.specs.Exits.{seen_throws, thrown, ThrowsHaveLocals};
 ghost use Rattle.par_except.specs.Throws.{apart_from, both, but, each, joined, joined_with};
 
 use crate::way::Way;
-use par_flow_laws::par_base::list::List;
-use par_flow_laws::par_base::memory::NoMemory;
+use par_program_laws::par_base::list::List;
+use par_program_laws::par_base::memory::NoMemory;
 use std::alloc::Global;
 
 /// The way that is kept for the class.

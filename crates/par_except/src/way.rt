@@ -1,16 +1,16 @@
 // What is known at a spot.
 ghost use Rattle.std.specs.Prelude.{◌≡◌, IfOk, length};
 ghost use Rattle.par_bits.specs.Sets.{has};
-ghost use Rattle.par_flow_laws.specs.Lattice.{numbers};
-ghost use Rattle.par_flow_laws.specs.Ways.{raised};
+ghost use Rattle.par_program_laws.specs.Lattice.{numbers};
+ghost use Rattle.par_program_laws.specs.Ways.{raised};
 ghost use Rattle.par_except.specs.Joins.{join};
 ghost use Rattle.par_except.specs.Seen.{seen};
 
 use crate::env;
 use par_atoms::Atoms;
 use par_bits::Bits;
-use par_flow_laws::par_base::list::List;
-use par_flow_laws::par_base::memory::NoMemory;
+use par_program_laws::par_base::list::List;
+use par_program_laws::par_base::memory::NoMemory;
 use std::alloc::Global;
 
 /// Who may learn that the spot is reached, the policy of each local by its number, and the locks

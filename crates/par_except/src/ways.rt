@@ -1,6 +1,6 @@
 // How a part is left.
 use crate::way::Way;
-use par_flow_laws::par_base::list::List;
+use par_program_laws::par_base::list::List;
 
 /// The way of each possible completion of an expression or a statement. A class stands once at most
 /// among those that it throws.

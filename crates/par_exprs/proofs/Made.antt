@@ -3,14 +3,14 @@ use Rattle.std.proofs.Common.{◌≡◌, ◌∷◌, [], ◌++◌, Ok, Err, Resul
 use Rattle.par_grammar.specs.Grammar.{builds}
 use Rattle.par_grammar.specs.Derivation.{Input}
 use Rattle.par_grammar.proofs.Run.{run}
-use Rattle.par_language_laws.specs.par_reader.declared.error.ParseError.{ParseError}
+use Rattle.par_reader.specs.declared.error.ParseError.{ParseError}
 use Rattle.par_tree.specs.declared.expr.Expr.{Expr}
 use Rattle.par_tree.specs.Plain.{Exp}
 use Rattle.par_tree.specs.Grammar.{Builders}
 use Rattle.par_tree.specs.Values.{Values, paragon, built, exp}
 use Rattle.par_tree.proofs.Founded.{founded}
 use Rattle.par_tree.proofs.Rules.{run_built}
-use Rattle.par_language_laws.specs.Reads.{Reads}
+use Rattle.par_reader.specs.SourceLanguage.{Reads}
 use Rattle.par_exprs.specs.Exprs.{tree, Makes}
 
 pub made : (b : Builders) (old : Values) (x : Exp) (i : Input) (r : Result Expr ParseError)

@@ -1,7 +1,7 @@
 -- What a reader of an expression gives, and what a maker makes.
 use Rattle.std.specs.Prelude.{◌≡◌, List, [], ◌∷◌, Result, Ok, Err}
-use Rattle.par_language_laws.specs.par_reader.declared.error.ParseError.{ParseError}
-use Rattle.par_language_laws.specs.par_reader.declared.error.ParseError.TheVariants.{Memory}
+use Rattle.par_reader.specs.declared.error.ParseError.{ParseError}
+use Rattle.par_reader.specs.declared.error.ParseError.TheVariants.{Memory}
 use Rattle.par_tree.specs.declared.expr.Expr.{Expr}
 use Rattle.par_tree.specs.Plain.{Exp}
 use Rattle.par_tree.specs.Shown.{shown, all_shown}

@@ -2,9 +2,9 @@
 use Rattle.std.specs.Prelude.{◌≡◌, ◌≢◌, ℕ, ◌+◌, List, [], ◌∷◌, drop, Result, Ok, Err}
 use Rattle.par_lexer.specs.declared.token.Token.{Token}
 use Rattle.par_grammar.specs.Derivation.{Input, Outcome, state, Comes}
-use Rattle.par_language_laws.specs.par_reader.Reads.{fault_of}
-use Rattle.par_language_laws.specs.par_reader.declared.error.ParseError.{ParseError}
-use Rattle.par_language_laws.specs.par_reader.declared.error.ParseError.TheVariants.{Memory}
+use Rattle.par_reader.specs.Reads.{fault_of}
+use Rattle.par_reader.specs.declared.error.ParseError.{ParseError}
+use Rattle.par_reader.specs.declared.error.ParseError.TheVariants.{Memory}
 use Rattle.par_tree.specs.declared.expr.Expr.{Expr}
 use Rattle.par_tree.specs.Shown.{shown}
 use Rattle.par_tree.specs.Grammar.{expr}

@@ -5,23 +5,23 @@ ghost use Rattle.par_grammar.specs.Grammar as symbol;
 ghost use Rattle.par_grammar.specs.declared.sort.Sort.TheVariants as sort;
 ghost use Rattle.par_lexer.specs.declared.sign.TheConstants as signs;
 ghost use Rattle.par_lexer.specs.declared.word.TheConstants as words;
-ghost use Rattle.par_language_laws.specs.par_reader.Reads.{IsOf, input};
+ghost use Rattle.par_reader.specs.Reads.{IsOf, input};
 ghost use Rattle.par_tree.specs.Grammar as g;
 ghost use Rattle.par_tree.specs.Shown.{shown, all_shown};
 ghost use Rattle.par_tree.specs.Values.{tok, exp, exps};
-ghost use Rattle.par_language_laws.specs.Reads.{Reads};
+ghost use Rattle.par_reader.specs.SourceLanguage.{Reads};
 ghost use Rattle.par_exprs.specs.Exprs.{tree, trees};
 
 use crate::make;
 use crate::operator::{LINES, operator};
 use par_grammar::sort::Sort;
-use par_language_laws::Paragon;
-use par_language_laws::par_reader::cursor::Cursor;
-use par_language_laws::par_reader::error::ParseError;
 use par_lexer::list::List;
 use par_lexer::operator::BinOp;
 use par_lexer::token::Token;
 use par_lexer::{sign, word};
+use par_reader::cursor::Cursor;
+use par_reader::error::ParseError;
+use par_reader::source_language::Paragon;
 use par_tree::expr::{Expr, ExprKind};
 use std::alloc::Global;
 

@@ -2,17 +2,17 @@
 
 ghost use Rattle.std.specs.Prelude.{◌≡◌, IfOk, IfErr};
 ghost use Rattle.par_grammar.specs.declared.sort.Sort.TheVariants as sort;
-ghost use Rattle.par_language_laws.specs.par_reader.Reads.{IsOf};
+ghost use Rattle.par_reader.specs.Reads.{IsOf};
 ghost use Rattle.par_tree.specs.Plain as plain;
 ghost use Rattle.par_tree.specs.Shown.{shown, all_shown};
 ghost use Rattle.par_tree.specs.Values as value;
 ghost use Rattle.par_exprs.specs.Exprs.{Makes};
 
-use par_language_laws::par_reader::error::ParseError;
 use par_lexer::list::List;
 use par_lexer::name::Name;
 use par_lexer::operator::BinOp;
 use par_lexer::token::{Kind, Token};
+use par_reader::error::ParseError;
 use par_tree::expr::{Expr, ExprKind};
 use par_tree::ident::Ident;
 use std::alloc::Global;

@@ -1,12 +1,12 @@
 ghost use Rattle.std.specs.Prelude.{◌≡◌, ◌≤◌, length, drop};
-ghost use Rattle.par_language_laws.specs.par_reader.declared.limit.TheConstants as limit;
+ghost use Rattle.par_reader.specs.declared.limit.TheConstants as limit;
 ghost use Rattle.par_exprs.specs.Reading.{IsReading, tokens_from};
 
 use crate::expr::expr;
-use par_language_laws::Paragon;
-use par_language_laws::par_reader::cursor::Cursor;
-use par_language_laws::par_reader::error::ParseError;
 use par_lexer::token::Token;
+use par_reader::cursor::Cursor;
+use par_reader::error::ParseError;
+use par_reader::source_language::Paragon;
 use par_tree::expr::Expr;
 use std::alloc::Global;
 use std::marker::PhantomData;

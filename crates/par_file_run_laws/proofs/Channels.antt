@@ -15,19 +15,19 @@ use Rattle.par_class.specs.declared.file.MethodFile.{MethodFile}
 use Rattle.par_class.specs.Spelling.{is_native}
 use Rattle.par_pool.specs.declared.constant.Constant.{Constant}
 use Rattle.par_secrecy.specs.Subject.{Name, InputChannel}
-use Rattle.par_erase_laws.specs.par_alike.Subject.{input_of, inputs_in, input_channels}
+use Rattle.par_code_laws.specs.par_alike.Subject.{input_of, inputs_in, input_channels}
 use Rattle.par_single.specs.Members.{text_at, own_name, is_static}
 use Rattle.par_code_laws.specs.par_link.Inputs.{is_input_of, has_input_in, has_input}
 use Rattle.par_erase.specs.Shown.{channel_info}
 use Rattle.par_erase.specs.Erased.{erased_table, erased_class, erased_channels, inputs_among}
 use Rattle.par_erase.specs.Erased.{outputs_among}
-use Rattle.par_loaded_laws.specs.par_compile_laws.Files.{IsMethodOf}
-use Rattle.par_loaded_laws.specs.par_compile_laws.Members.{Member, member_access, channel}
-use Rattle.par_loaded_laws.specs.par_compile_laws.Members.{methods_from, members}
-use Rattle.par_loaded_laws.specs.par_layout_laws.Parts.{IsOf, Known}
-use Rattle.par_loaded_laws.proofs.par_layout_laws.Lists.{mapped-from}
-use Rattle.par_loaded_laws.proofs.par_layout_laws.Texts.{same-text, text-itself, text-said}
-use Rattle.par_loaded_laws.proofs.par_layout_laws.Known.{own-is}
+use Rattle.par_compile_laws.specs.Files.{IsMethodOf}
+use Rattle.par_compile_laws.specs.Members.{Member, member_access, channel}
+use Rattle.par_compile_laws.specs.Members.{methods_from, members}
+use Rattle.par_file_run_laws.specs.Parts.{IsOf, Known}
+use Rattle.par_file_run_laws.proofs.Lists.{mapped-from}
+use Rattle.par_file_run_laws.proofs.Texts.{same-text, text-itself, text-said}
+use Rattle.par_file_run_laws.proofs.Known.{own-is}
 use Rattle.par_file_run_laws.proofs.Simple.{each}
 
 -- ---- lists

@@ -30,28 +30,29 @@ use Rattle.par_code_laws.specs.par_step_laws.Run as files_run
 use Rattle.par_code_laws.specs.par_step_laws.State.{State, start}
 use Rattle.par_code_laws.specs.par_step_laws.Target.{target}
 use Rattle.par_code_laws.proofs.par_step_laws.Extending.{more_instructions}
-use Rattle.par_placed_run_laws.specs.par_engine_laws.Engine.{Program, run}
+use Rattle.par_placed_run_laws.specs.par_match_laws.Engine.{Program, run}
 use Rattle.par_placed_run_laws.specs.par_match_laws.Labelled.{Naming, of_labelled}
-use Rattle.par_placed_run_laws.specs.par_naming_laws.Naming.{naming_of}
-use Rattle.par_placeable_laws.specs.par_place_laws.Placeable.{FitsItem}
-use Rattle.par_code_laws.specs.par_agreement_laws.Laid.{Layout, Meth}
+use Rattle.par_placed_run_laws.specs.par_match_laws.Naming.{naming_of}
+use Rattle.par_source_code_laws.specs.par_code_form.Placeable.{FitsItem}
+use Rattle.par_code_laws.specs.par_evaluation_laws.Laid.{Layout, Meth}
 use Rattle.par_code_laws.specs.par_evaluation_laws.Programs.{IsCompiled, begins}
 use Rattle.par_code_laws.specs.Laws.{ShowsRuns, Begins, LabelledCodeShows}
-use Rattle.par_erase_laws.specs.Laws.{PlainRunsShow, PlainFrontsAreFronts}
-use Rattle.par_loaded_laws.specs.par_source_code_laws.Laws.{BodiesAreErased}
-use Rattle.par_loaded_laws.specs.par_source_code_laws.Compiled.{WellTypedProgramsAreCompiled}
-use Rattle.par_loaded_laws.proofs.par_source_code_laws.Bodies.{found}
-use Rattle.par_placeable_laws.specs.Laws.{IsReadyBody, LabelledCodeIsPlaceable, WordsAreTexts}
+use Rattle.par_code_laws.specs.EraseLaws.{PlainRunsShow, PlainFrontsAreFronts}
+use Rattle.par_source_code_laws.specs.Laws.{BodiesAreErased}
+use Rattle.par_source_code_laws.specs.Compiled.{WellTypedProgramsAreCompiled}
+use Rattle.par_source_code_laws.proofs.Bodies.{found}
+use Rattle.par_source_code_laws.specs.PlaceableLaws.{IsReadyBody, LabelledCodeIsPlaceable}
+use Rattle.par_source_code_laws.specs.PlaceableLaws.{WordsAreTexts}
 use Rattle.par_placed_run_laws.specs.Laid.{IsLaid, PlacedCodeRuns, begun}
 use Rattle.par_placed_run_laws.specs.Made.{PlacedCodeIsLaid}
-use Rattle.par_loaded_laws.specs.par_layout_laws.Layout.{layout_of}
-use Rattle.par_loaded_laws.specs.par_layout_laws.Code.{code_at, labelled_of}
-use Rattle.par_loaded_laws.specs.par_layout_laws.Parts.{Known, first_areas}
-use Rattle.par_loaded_laws.specs.par_layout_laws.Laws.{NamesAreLaidOut, InitializersStand}
-use Rattle.par_loaded_laws.specs.par_layout_laws.Laws.{FilesAreLaidOut}
-use Rattle.par_loaded_laws.specs.par_layout_laws.Laws.{StatesBeginAlike, CodeIsPlaced, BeginsAtMain}
-use Rattle.par_loaded_laws.specs.par_layout_laws.Laws.{ProgramsBeginAtMain}
-use Rattle.par_loaded_laws.specs.Laws.{ErasedTablesHaveKinds, LoadedFilesAreKnown}
+use Rattle.par_file_run_laws.specs.Layout.{layout_of}
+use Rattle.par_file_run_laws.specs.Code.{code_at, labelled_of}
+use Rattle.par_file_run_laws.specs.Parts.{Known, first_areas}
+use Rattle.par_file_run_laws.specs.LayoutLaws.{NamesAreLaidOut, InitializersStand}
+use Rattle.par_file_run_laws.specs.LayoutLaws.{FilesAreLaidOut}
+use Rattle.par_file_run_laws.specs.LayoutLaws.{StatesBeginAlike, CodeIsPlaced, BeginsAtMain}
+use Rattle.par_file_run_laws.specs.LayoutLaws.{ProgramsBeginAtMain}
+use Rattle.par_file_run_laws.specs.LoadedLaws.{ErasedTablesHaveKinds, LoadedFilesAreKnown}
 use Rattle.par_file_run_laws.specs.Laws.{AreLoadedFor, main_class, FilesShow, FilesShowWhole}
 use Rattle.par_file_run_laws.proofs.Simple.{all_named}
 use Rattle.par_file_run_laws.proofs.Fitting.{BodiesFit, code_fits}

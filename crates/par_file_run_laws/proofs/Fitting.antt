@@ -19,17 +19,17 @@ use Rattle.par_code_form.specs.declared.labelled.Labelled.{Labelled}
 use Rattle.par_code_form.specs.Code.{body_handlers, initializer_code}
 use Rattle.par_code_form.specs.Method.{labelled}
 use Rattle.par_code_form.specs.Named.{words_of}
-use Rattle.par_placeable_laws.specs.par_place_laws.Named.{full_name}
-use Rattle.par_placeable_laws.specs.par_place_laws.Placeable.{FitsItem}
-use Rattle.par_loaded_laws.specs.par_compile_laws.Members.{Member, above, channel, method}
-use Rattle.par_loaded_laws.specs.par_compile_laws.Members.{methods_from, members}
-use Rattle.par_loaded_laws.specs.par_compile_laws.Members.{initializer_of}
-use Rattle.par_loaded_laws.specs.par_link_laws.Linkable.{IsLinkable, IsClassWord}
+use Rattle.par_source_code_laws.specs.par_code_form.PoolNames.{full_name}
+use Rattle.par_source_code_laws.specs.par_code_form.Placeable.{FitsItem}
+use Rattle.par_compile_laws.specs.Members.{Member, above, channel, method}
+use Rattle.par_compile_laws.specs.Members.{methods_from, members}
+use Rattle.par_compile_laws.specs.Members.{initializer_of}
+use Rattle.par_link_laws.specs.Linkable.{IsLinkable, IsClassWord}
 use Rattle.par_placed_run_laws.specs.Made.{IsSimple}
-use Rattle.par_loaded_laws.specs.par_layout_laws.Code.{class_of, no_code, code_or_none, code_of}
-use Rattle.par_loaded_laws.specs.par_layout_laws.Code.{members_of}
-use Rattle.par_loaded_laws.specs.par_layout_laws.Code.{members_in, code_at}
-use Rattle.par_loaded_laws.proofs.par_layout_laws.Lists.{each-item}
+use Rattle.par_file_run_laws.specs.Code.{class_of, no_code, code_or_none, code_of}
+use Rattle.par_file_run_laws.specs.Code.{members_of}
+use Rattle.par_file_run_laws.specs.Code.{members_in, code_at}
+use Rattle.par_file_run_laws.proofs.Lists.{each-item}
 use Rattle.par_file_run_laws.proofs.Simple.{each, said_simple}
 
 pub record IsFit (code : Labelled) : Type 0 where

@@ -19,17 +19,17 @@ use Rattle.par_code_laws.specs.par_link.Inputs.{is_input_of, has_input_in, has_i
 use Rattle.par_code_laws.proofs.par_link.Passing.{any-at}
 use Rattle.par_code_laws.specs.par_step_laws.Target.{target}
 use Rattle.par_code_form.specs.Named.{class_word, words_of}
-use Rattle.par_loaded_laws.specs.par_compile_laws.Members.{channel}
-use Rattle.par_placed_run_laws.specs.par_naming_laws.Naming.{naming_of}
-use Rattle.par_code_laws.specs.par_agreement_laws.Laid.{IsInput}
-use Rattle.par_code_laws.specs.par_agreement_laws.Agreement.{Fine}
-use Rattle.par_loaded_laws.specs.par_layout_laws.Layout.{layout_of}
-use Rattle.par_loaded_laws.specs.par_layout_laws.Parts.{Known, first_areas}
-use Rattle.par_loaded_laws.proofs.par_layout_laws.Texts.{text-said, text-itself}
-use Rattle.par_loaded_laws.proofs.par_layout_laws.Known.{own-said}
-use Rattle.par_loaded_laws.proofs.par_layout_laws.Callees.{there, channel-at}
-use Rattle.par_loaded_laws.proofs.par_layout_laws.Held.{input-here, input-in}
-use Rattle.par_loaded_laws.proofs.par_layout_laws.Channels.{name-word}
+use Rattle.par_compile_laws.specs.Members.{channel}
+use Rattle.par_placed_run_laws.specs.par_match_laws.Naming.{naming_of}
+use Rattle.par_code_laws.specs.par_evaluation_laws.Laid.{IsInput}
+use Rattle.par_code_laws.specs.par_evaluation_laws.Agreement.{Fine}
+use Rattle.par_file_run_laws.specs.Layout.{layout_of}
+use Rattle.par_file_run_laws.specs.Parts.{Known, first_areas}
+use Rattle.par_file_run_laws.proofs.Texts.{text-said, text-itself}
+use Rattle.par_file_run_laws.proofs.Known.{own-said}
+use Rattle.par_file_run_laws.proofs.Callees.{there, channel-at}
+use Rattle.par_file_run_laws.proofs.Held.{input-here, input-in}
+use Rattle.par_file_run_laws.proofs.LoadedChannels.{name-word}
 
 module _ (table : Table) (bodies : List Body) (files : List ClassFile)
     (known : Known table bodies files) where

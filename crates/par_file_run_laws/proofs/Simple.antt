@@ -10,11 +10,11 @@ use Rattle.par_typed.specs.declared.table.Table.{Table}
 use Rattle.par_typed.specs.Plain.{Body}
 use Rattle.par_erase.specs.Named.{IsNamed, AreNamed}
 use Rattle.par_code_form.specs.Named.{of_class, class_word}
-use Rattle.par_loaded_laws.specs.par_link_laws.Linkable.{IsLinkable, ClassLinks, FieldLinks}
-use Rattle.par_loaded_laws.specs.par_link_laws.Linkable.{MethodLinks}
-use Rattle.par_loaded_laws.specs.par_link_laws.Linkable.{IsClassWord}
+use Rattle.par_link_laws.specs.Linkable.{IsLinkable, ClassLinks, FieldLinks}
+use Rattle.par_link_laws.specs.Linkable.{MethodLinks}
+use Rattle.par_link_laws.specs.Linkable.{IsClassWord}
 use Rattle.par_placed_run_laws.specs.Made.{has_slash}
-use Rattle.par_loaded_laws.proofs.par_layout_laws.Lists.{each-item}
+use Rattle.par_file_run_laws.proofs.Lists.{each-item}
 
 pub each : {X : Type 0} (P Q : X → Type 0) → ((x : X) → P x → Q x) → (xs : List X)
     → AllByRecursion P xs → AllByRecursion Q xs

@@ -1,21 +1,21 @@
 -- The loaded files of a well-typed program show its runs.
-use Rattle.par_loaded_laws.proofs.par_source_code_laws.Bodies.{bodies_are_erased}
-use Rattle.par_loaded_laws.proofs.par_source_code_laws.Compiled.{well_typed_programs_are_compiled}
-use Rattle.par_placeable_laws.proofs.Bodies.{all_ready}
-use Rattle.par_placeable_laws.proofs.Words.{words_are_texts}
-use Rattle.par_loaded_laws.proofs.par_layout_laws.Codes.{inits, methods-are, methods-coded}
-use Rattle.par_loaded_laws.proofs.par_layout_laws.Codes.{main-there, others}
-use Rattle.par_loaded_laws.proofs.par_layout_laws.Covered.{named}
-use Rattle.par_loaded_laws.proofs.par_layout_laws.Laid.{lays}
-use Rattle.par_loaded_laws.proofs.par_layout_laws.Start.{begins}
-use Rattle.par_loaded_laws.proofs.par_layout_laws.Placed.{code_is_placed}
-use Rattle.par_loaded_laws.proofs.par_layout_laws.Begun.{begins_at_main}
-use Rattle.par_loaded_laws.proofs.Erasure.{erased_tables_have_kinds}
-use Rattle.par_loaded_laws.proofs.Given.{loaded_files_are_known}
+use Rattle.par_source_code_laws.proofs.Bodies.{bodies_are_erased}
+use Rattle.par_source_code_laws.proofs.Compiled.{well_typed_programs_are_compiled}
+use Rattle.par_source_code_laws.proofs.PlaceableBodies.{all_ready}
+use Rattle.par_source_code_laws.proofs.Words.{words_are_texts}
+use Rattle.par_file_run_laws.proofs.Codes.{inits, methods-are, methods-coded}
+use Rattle.par_file_run_laws.proofs.Codes.{main-there, others}
+use Rattle.par_file_run_laws.proofs.Covered.{named}
+use Rattle.par_file_run_laws.proofs.Laid.{lays}
+use Rattle.par_file_run_laws.proofs.Start.{begins}
+use Rattle.par_file_run_laws.proofs.Placed.{code_is_placed}
+use Rattle.par_file_run_laws.proofs.Begun.{begins_at_main}
+use Rattle.par_file_run_laws.proofs.Erasure.{erased_tables_have_kinds}
+use Rattle.par_file_run_laws.proofs.Given.{loaded_files_are_known}
 use Rattle.par_placed_run_laws.proofs.Made.{laid}
 use Rattle.par_placed_run_laws.proofs.Runs.{placed_runs}
 use Rattle.par_code_laws.proofs.Whole.{labelled_code_shows}
-use Rattle.par_erase_laws.proofs.Whole.{plain_runs_show, plain_fronts_are_fronts}
+use Rattle.par_code_laws.proofs.ErasedRuns.{plain_runs_show, plain_fronts_are_fronts}
 use Rattle.par_file_run_laws.specs.Laws.{FilesShow, FilesShowWhole}
 use Rattle.par_file_run_laws.proofs.Composed.{Parts, files_show_by, files_show_whole_by}
 

@@ -4,7 +4,7 @@ use Rattle.par_typed.specs.declared.program.Typed.{Typed}
 use Rattle.par_typed.specs.declared.table.Table.{Table}
 use Rattle.par_typed.specs.Plain.{Body}
 use Rattle.par_typed.specs.Shown.{bodies}
-use Rattle.par_placeable_laws.specs.par_typed_laws.WellTyped.{IsWellTyped}
+use Rattle.par_source_code_laws.specs.par_typed_laws.WellTyped.{IsWellTyped}
 use Rattle.par_class.specs.declared.file.ClassFile.{ClassFile}
 use Rattle.par_values.specs.declared.inputs.Inputs.{Inputs}
 use Rattle.par_values.specs.declared.run.Ending.TheVariants.{Stopped}
@@ -12,12 +12,12 @@ use Rattle.par_values.specs.Areas.{Name}
 use Rattle.par_secrecy.specs.Subject.{Fits}
 use Rattle.par_secrecy.specs.Target.{fitting}
 use Rattle.par_secrecy.specs.Shows.{Shows, shown_run}
-use Rattle.par_erase_laws.specs.par_alike.Subject.{subject}
+use Rattle.par_code_laws.specs.par_alike.Subject.{subject}
 use Rattle.par_run_laws.specs.Source.{source}
 use Rattle.par_erase.specs.Erased.{erased_table, erased_bodies}
 use Rattle.par_code_form.specs.Named.{class_word}
-use Rattle.par_loaded_laws.specs.par_link_laws.Linkable.{IsLinkable}
-use Rattle.par_loaded_laws.specs.par_link_laws.Parts.{AreLoadedFiles}
+use Rattle.par_link_laws.specs.Linkable.{IsLinkable}
+use Rattle.par_link_laws.specs.Parts.{AreLoadedFiles}
 use Rattle.par_code_laws.specs.par_step_laws.Target.{target}
 use Rattle.par_code_laws.specs.par_step_laws.Run.{machine_run}
 

@@ -10,10 +10,10 @@ use Rattle.par_policy.specs.Numbers.{has as is_among}
 use Rattle.par_typed.specs.declared.table.Table.{Table}
 use Rattle.par_typed.specs.Plain.{Body}
 use Rattle.par_bits.specs.Sets.{Set, has}
-use Rattle.par_flow_laws.specs.Lattice.{numbers}
-use Rattle.par_flow_laws.specs.Ways.{Way}
-use Rattle.par_flow_laws.specs.Kinds.{Kind}
-use Rattle.par_flow_laws.specs.Facts.{Fact, blank}
+use Rattle.par_program_laws.specs.Lattice.{numbers}
+use Rattle.par_program_laws.specs.Ways.{Way}
+use Rattle.par_program_laws.specs.Kinds.{Kind}
+use Rattle.par_program_laws.specs.Facts.{Fact, blank}
 use Rattle.par_locks.specs.par_pass_laws.Written.{table as by_point}
 use Rattle.par_envs.specs.Numbered.{Extends, AreFound}
 use Rattle.par_envs.proofs.Found.{different}
@@ -21,7 +21,7 @@ use Rattle.par_rounds.specs.par_ways.declared.exits.Exit.{Exit}
 use Rattle.par_rounds.specs.par_ways.declared.fact.Fact as code
 use Rattle.par_rounds.specs.par_ways.Seen.{seen_exit, seen_exits, seen_fact, seen_facts}
 use Rattle.par_rounds.specs.Bodies.{AreLeastClosed}
-use Rattle.par_flow_laws.specs.Orderly.{locals_in}
+use Rattle.par_program_laws.specs.Orderly.{locals_in}
 use Rattle.par_flow.specs.declared.kept.KeptWay.{KeptWay}
 use Rattle.par_flow.specs.declared.kept.KeptWays.{KeptWays}
 use Rattle.par_flow.specs.declared.table.Row.{Row}

@@ -2,10 +2,10 @@
 use Rattle.std.specs.Prelude.{◌≡◌, ◌<◌, ◌⊎◌, ℕ, cond, nat_eq, Option, Some, None, List, [], ◌∷◌}
 use Rattle.std.specs.Prelude.{All, length, slice_get}
 use Rattle.par_bits.specs.Sets.{has}
-use Rattle.par_flow_laws.specs.Lattice.{numbers}
-use Rattle.par_flow_laws.specs.Ways.{Way}
-use Rattle.par_flow_laws.specs.Kinds as kind
-use Rattle.par_flow_laws.specs.Kinds.{Kind}
+use Rattle.par_program_laws.specs.Lattice.{numbers}
+use Rattle.par_program_laws.specs.Ways.{Way}
+use Rattle.par_program_laws.specs.Kinds as kind
+use Rattle.par_program_laws.specs.Kinds.{Kind}
 use Rattle.par_locks.specs.par_except.Seen.{locals}
 use Rattle.par_locks.specs.par_pass_laws.Exits.{Exit, at}
 use Rattle.par_flow.specs.declared.kept.KeptWay.{KeptWay}

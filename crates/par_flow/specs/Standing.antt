@@ -1,8 +1,8 @@
 -- What is asked of a way: its context and its locks.
 use Rattle.std.specs.Prelude.{Option, Some, None}
 use Rattle.par_bits.specs.Sets.{Set, has}
-use Rattle.par_flow_laws.specs.Lattice.{numbers}
-use Rattle.par_flow_laws.specs.Ways.{Way}
+use Rattle.par_program_laws.specs.Lattice.{numbers}
+use Rattle.par_program_laws.specs.Ways.{Way}
 use Rattle.par_flow.specs.declared.known.Known.{Known}
 
 pub record Standing : Type 0 where

@@ -5,14 +5,14 @@ use Rattle.par_policy.specs.Numbers.{has as is_among}
 use Rattle.par_typed.specs.declared.table.Table.{Table}
 use Rattle.par_typed.specs.Plain.{Body}
 use Rattle.par_bits.specs.Sets.{has}
-use Rattle.par_flow_laws.specs.Lattice.{numbers}
-use Rattle.par_flow_laws.specs.Ways.{Way}
-use Rattle.par_flow_laws.specs.Kinds.{Kind}
-use Rattle.par_flow_laws.specs.Facts.{Fact, Facts, blank}
+use Rattle.par_program_laws.specs.Lattice.{numbers}
+use Rattle.par_program_laws.specs.Ways.{Way}
+use Rattle.par_program_laws.specs.Kinds.{Kind}
+use Rattle.par_program_laws.specs.Facts.{Fact, Facts, blank}
 use Rattle.par_envs.specs.Numbered.{envs, AreDifferent}
 use Rattle.par_rounds.specs.Bodies.{AreLeastClosed}
 use Rattle.par_flow.specs.Standing.{Standing}
-use Rattle.par_flow_laws.specs.Orderly.{locals_in}
+use Rattle.par_program_laws.specs.Orderly.{locals_in}
 use Rattle.par_flow.specs.declared.kept.KeptWay.{KeptWay}
 use Rattle.par_flow.specs.declared.kept.KeptWays.{KeptWays}
 use Rattle.par_flow.specs.declared.table.Row.{Row}

@@ -2,8 +2,8 @@
 ghost use Rattle.std.specs.Prelude.{◌≡◌, ◌∷◌, ◌++◌, ℕ, false, [], IfOk, OnOk, MatchOption};
 ghost use Rattle.std.specs.Prelude.{List as Items};
 ghost use Rattle.std.specs.Option.{option_copied};
-ghost use Rattle.par_flow_laws.specs.Kinds as kinds;
-ghost use Rattle.par_flow_laws.specs.Kinds.{Kind as Completion};
+ghost use Rattle.par_program_laws.specs.Kinds as kinds;
+ghost use Rattle.par_program_laws.specs.Kinds.{Kind as Completion};
 ghost use Rattle.par_nodes.specs.Seen.{seen_kind};
 ghost use Rattle.par_locks.specs.par_except.Seen.{may_see, seen, HasLocals, MayHaveLocals};
 ghost use Rattle.par_locks.specs.par_pass_laws.Exits.{at, Exit as Left};

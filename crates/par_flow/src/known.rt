@@ -2,8 +2,8 @@
 
 ghost use Rattle.std.specs.Prelude.{◌≡◌};
 ghost use Rattle.par_bits.specs.Sets.{has};
-ghost use Rattle.par_flow_laws.specs.Lattice.{numbers};
-ghost use Rattle.par_flow_laws.specs.Facts.{Facts};
+ghost use Rattle.par_program_laws.specs.Lattice.{numbers};
+ghost use Rattle.par_program_laws.specs.Facts.{Facts};
 ghost use Rattle.par_nodes.specs.Seen.{seen_kind};
 ghost use Rattle.par_flow.specs.Standing.{standing, stands};
 

@@ -9,7 +9,7 @@ ghost use Rattle.par_typed.specs.Shown as shown;
 ghost use Rattle.par_envs.specs.Numbered.{AreFound, Extends, envs};
 ghost use Rattle.par_locks.specs.par_except.Seen.{may_see, MayHaveLocals};
 ghost use Rattle.par_rounds.specs.par_ways.Seen.{seen_fact, seen_facts, AreRowsWide, IsRowWide};
-ghost use Rattle.par_flow_laws.specs.Orderly.{IsOrderlyBody};
+ghost use Rattle.par_program_laws.specs.Orderly.{IsOrderlyBody};
 ghost use Rattle.par_flow.specs.Standing.{stands};
 ghost use Rattle.par_locks.specs.Open.{open_at, AreOpenOf};
 ghost use Rattle.par_flow.specs.Kept.{AddsOnly, AreLong};

@@ -2,7 +2,7 @@
 
 ghost use Rattle.std.specs.List.{AllByRecursion};
 ghost use Rattle.par_typed.specs.Shown.{bodies};
-ghost use Rattle.par_flow_laws.specs.Orderly.{IsOrderlyBody};
+ghost use Rattle.par_program_laws.specs.Orderly.{IsOrderlyBody};
 
 use par_atoms::Atoms;
 use par_flow::{FactTable, KeptWay, facts_of};

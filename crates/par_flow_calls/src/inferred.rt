@@ -2,7 +2,7 @@
 
 ghost use Rattle.std.specs.Prelude.{IsTrue};
 ghost use Rattle.std.specs.List.{AllByRecursion};
-ghost use Rattle.par_table_laws.specs.Declared.{HasFewFields};
+ghost use Rattle.par_program_laws.specs.WellDeclared.{HasFewFields};
 
 use par_infer::{Filling, InferError, infer};
 use par_typed::program::Typed;

@@ -1,7 +1,7 @@
 -- The frames that stand of a method, as definitions see them.
 use Rattle.std.specs.Prelude.{List, map, Option}
 use Rattle.std.specs.Option.{option_map}
-use Rattle.par_frame_pass_laws.specs.Passes.{Table}
+use Rattle.par_kinds.specs.Passes.{Table}
 use Rattle.par_frame_steps.specs.declared.frame.PlaceFrame.{PlaceFrame}
 use Rattle.par_frame_steps.specs.Marks.{frame_of}
 

@@ -3,7 +3,7 @@
 ghost use Rattle.std.specs.Prelude.{◌≡◌, drop, List as Items};
 ghost use Rattle.par_values.specs.Areas.{Name};
 ghost use Rattle.par_kinds.specs.Kinds.{accepts};
-ghost use Rattle.par_frame_steps.specs.par_frame_pass_laws.Passes.{takes_fit, also_fits, act_fits};
+ghost use Rattle.par_frame_steps.specs.par_kinds.Passes.{takes_fit, also_fits, act_fits};
 ghost use Rattle.par_frame_steps.specs.Marks.{kind_of, operands_of, frame_of};
 ghost use Rattle.par_frame_moves.specs.declared.brief.Takes.TheVariants as takes;
 ghost use Rattle.par_frame_moves.specs.Briefs.{want_of, takes_of, also_of, act_of};

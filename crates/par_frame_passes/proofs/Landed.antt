@@ -15,15 +15,15 @@ use Rattle.par_frame_moves.specs.par_kinds.Kinds.{KFrame, Both, Into, FrameInto,
 use Rattle.par_frame_moves.specs.par_kinds.Acts.{Act}
 use Rattle.par_frame_moves.specs.par_kinds.Fits.{Given}
 use Rattle.par_frame_moves.proofs.par_kinds.Lists.{both-length}
-use Rattle.par_frame_pass_laws.specs.Passes.{Table, frame_at, Way, Step, landed, landed_at}
-use Rattle.par_frame_pass_laws.specs.Passes.{land_to, land}
-use Rattle.par_frame_pass_laws.specs.Passes.{all_into, frame_into, merge_all, merge_frames}
-use Rattle.par_frame_pass_laws.specs.Passes.{same_lengths}
-use Rattle.par_frame_pass_laws.specs.Passes.{is_sized}
-use Rattle.par_frame_pass_laws.proofs.Lower.{all-below, below-all, below-both, frame-below}
-use Rattle.par_frame_pass_laws.proofs.Lower.{below-frame}
-use Rattle.par_frame_pass_laws.proofs.Lower.{frame-least, all_both, both_all, below-same}
-use Rattle.par_frame_pass_laws.proofs.Ending.{starts-within}
+use Rattle.par_kinds.specs.Passes.{Table, frame_at, Way, Step, landed, landed_at}
+use Rattle.par_kinds.specs.Passes.{land_to, land}
+use Rattle.par_kinds.specs.Passes.{all_into, frame_into, merge_all, merge_frames}
+use Rattle.par_kinds.specs.Passes.{same_lengths}
+use Rattle.par_kinds.specs.Passes.{is_sized}
+use Rattle.par_kinds.proofs.Lower.{all-below, below-all, below-both, frame-below}
+use Rattle.par_kinds.proofs.Lower.{below-frame}
+use Rattle.par_kinds.proofs.Lower.{frame-least, all_both, both_all, below-same}
+use Rattle.par_kinds.proofs.Ending.{starts-within}
 use Rattle.par_frame_passes.specs.Sweeps.{Calm, Fits, Met, Meets, Kept, Went}
 use Rattle.par_frame_passes.specs.Tables.{NewAt}
 use Rattle.par_frame_passes.specs.declared.course.Course.{Course}

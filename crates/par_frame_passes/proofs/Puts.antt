@@ -4,7 +4,7 @@ use Rattle.std.proofs.Common.{length, set, get_or, refl, sym, subst, arith}
 use Rattle.std.proofs.lemmas.List.{map-set, set_past, length-map}
 use Rattle.std.specs.Option.{option_map}
 use Rattle.par_frame_moves.specs.par_kinds.Kinds.{KFrame}
-use Rattle.par_frame_pass_laws.specs.Passes.{frame_at}
+use Rattle.par_kinds.specs.Passes.{frame_at}
 use Rattle.par_frame_steps.specs.declared.frame.PlaceFrame.{PlaceFrame}
 use Rattle.par_frame_steps.specs.Marks.{frame_of}
 use Rattle.par_frame_passes.specs.Tables.{table_of}

@@ -15,8 +15,8 @@ use Rattle.par_frame_moves.specs.par_kinds.Kinds.{KFrame, Each, Both, Into}
 use Rattle.par_frame_moves.specs.par_kinds.Acts.{Act}
 use Rattle.par_frame_moves.specs.par_kinds.Fits.{Given, around, CatchFits}
 use Rattle.par_frame_moves.proofs.par_kinds.Lists.{each-append, each-more}
-use Rattle.par_frame_pass_laws.specs.Passes.{Table, frame_at, handled}
-use Rattle.par_frame_pass_laws.proofs.Lower.{all_both, both_all, all-below, below-then}
+use Rattle.par_kinds.specs.Passes.{Table, frame_at, handled}
+use Rattle.par_kinds.proofs.Lower.{all_both, both_all, all-below, below-then}
 use Rattle.par_frame_passes.specs.Sparing.{Apart, AreMarked, IsBelow, Spares, SparesApart}
 use Rattle.par_frame_passes.specs.Sparing.{SparesBehind}
 use Rattle.par_frame_passes.specs.Sweeps.{Calm, Met, Meets, Kept, Went}

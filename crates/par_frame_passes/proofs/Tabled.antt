@@ -3,7 +3,7 @@ use Rattle.std.proofs.Common.{◌≡◌, ℕ, zero, suc, ◌<◌, ◌⊎◌, inl
 use Rattle.std.proofs.Common.{None}
 use Rattle.std.proofs.Common.{[], ◌∷◌, length, set, refl, ap, arith}
 use Rattle.par_frame_moves.specs.par_kinds.Kinds.{KFrame}
-use Rattle.par_frame_pass_laws.specs.Passes.{Table, frame_at}
+use Rattle.par_kinds.specs.Passes.{Table, frame_at}
 
 -- what is put is there
 pub put-there : (t : Table) (at : ℕ) (o : Option KFrame) → at < length t

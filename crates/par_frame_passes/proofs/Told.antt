@@ -11,7 +11,7 @@ use Rattle.par_frame_moves.specs.par_kinds.declared.frame.VKind.{VKind}
 use Rattle.par_frame_moves.specs.par_kinds.Kinds.{KFrame}
 use Rattle.par_frame_moves.specs.par_kinds.Acts.{Act}
 use Rattle.par_frame_moves.specs.par_kinds.Fits.{Given}
-use Rattle.par_frame_pass_laws.specs.Passes.{Table, frame_at, is_sized}
+use Rattle.par_kinds.specs.Passes.{Table, frame_at, is_sized}
 use Rattle.par_frame_passes.specs.Sweeps.{Kept, Settles}
 use Rattle.par_frame_passes.specs.Telling.{Tells}
 use Rattle.par_frame_passes.proofs.Landed.{frame-same}

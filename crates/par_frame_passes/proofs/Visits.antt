@@ -16,11 +16,11 @@ use Rattle.par_frame_moves.specs.par_kinds.Kinds.{KFrame, Both, Into, FrameInto,
 use Rattle.par_frame_moves.specs.par_kinds.Acts.{Act, ActFits, Flow, left_by, next_offsets}
 use Rattle.par_frame_moves.specs.par_kinds.Fits.{Given, around, GoesTo, CatchFits, FitsAt}
 use Rattle.par_frame_moves.proofs.par_kinds.Lists.{each-append, each-more}
-use Rattle.par_frame_pass_laws.specs.Passes.{Table, frame_at, Way, onward, handled, act_fits}
-use Rattle.par_frame_pass_laws.specs.Passes.{is_sized}
-use Rattle.par_frame_pass_laws.proofs.Lower.{frame-then, below-then, below-same, act-below}
-use Rattle.par_frame_pass_laws.proofs.Lower.{left-below}
-use Rattle.par_frame_pass_laws.proofs.Lower.{act-decided, decided-act, all_both}
+use Rattle.par_kinds.specs.Passes.{Table, frame_at, Way, onward, handled, act_fits}
+use Rattle.par_kinds.specs.Passes.{is_sized}
+use Rattle.par_kinds.proofs.Lower.{frame-then, below-then, below-same, act-below}
+use Rattle.par_kinds.proofs.Lower.{left-below}
+use Rattle.par_kinds.proofs.Lower.{act-decided, decided-act, all_both}
 use Rattle.par_frame_passes.specs.Sweeps.{Calm, Fits, Met, Meets, Kept, Went, Swept, Visited}
 use Rattle.par_frame_passes.specs.Sweeps.{Settles}
 use Rattle.par_frame_passes.specs.Tables.{Taken, taken_by, joined}

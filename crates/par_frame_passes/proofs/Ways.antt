@@ -13,7 +13,7 @@ use Rattle.par_frame_moves.specs.par_kinds.Kinds.{KFrame, Each}
 use Rattle.par_frame_moves.specs.par_kinds.Acts.{Act}
 use Rattle.par_frame_moves.specs.par_kinds.Fits.{Given, around}
 use Rattle.par_frame_moves.proofs.par_kinds.Lists.{each-append, each-more}
-use Rattle.par_frame_pass_laws.specs.Passes.{Table, Way, frame_at, onward, handled}
+use Rattle.par_kinds.specs.Passes.{Table, Way, frame_at, onward, handled}
 use Rattle.par_frame_passes.specs.Sweeps.{Calm, Met, Meets, Went}
 use Rattle.par_frame_passes.specs.Tables.{taken_by, joined}
 use Rattle.par_frame_passes.specs.declared.course.Course.{Course}

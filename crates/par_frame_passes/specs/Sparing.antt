@@ -9,7 +9,7 @@ use Rattle.par_frame_moves.specs.par_kinds.declared.frame.VKind.{VKind}
 use Rattle.par_frame_moves.specs.par_kinds.Kinds.{KFrame, Each}
 use Rattle.par_frame_moves.specs.par_kinds.Acts.{Act}
 use Rattle.par_frame_moves.specs.par_kinds.Fits.{around, CatchFits}
-use Rattle.par_frame_pass_laws.specs.Passes.{Table, frame_at, all_into}
+use Rattle.par_kinds.specs.Passes.{Table, frame_at, all_into}
 
 -- neither a handler begins at an offset nor what it handles
 abbrev pub Apart : ℕ → Catch → Type 0

@@ -10,8 +10,8 @@ use Rattle.par_frame_moves.specs.par_kinds.declared.frame.VKind.{VKind}
 use Rattle.par_frame_moves.specs.par_kinds.Kinds.{KFrame, FrameInto, Each}
 use Rattle.par_frame_moves.specs.par_kinds.Acts.{Act}
 use Rattle.par_frame_moves.specs.par_kinds.Fits.{Given, Fitting, FitsAt}
-use Rattle.par_frame_pass_laws.specs.Passes.{Table, Way, frame_at, is_sized, Below}
-use Rattle.par_frame_pass_laws.specs.Passes.{StartsWith}
+use Rattle.par_kinds.specs.Passes.{Table, Way, frame_at, is_sized, Below}
+use Rattle.par_kinds.specs.Passes.{StartsWith}
 use Rattle.par_frame_passes.specs.declared.course.Course.{Course}
 use Rattle.par_frame_passes.specs.declared.course.Course.TheVariants as course
 

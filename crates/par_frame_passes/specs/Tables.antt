@@ -9,7 +9,7 @@ use Rattle.par_frame_moves.specs.par_kinds.declared.frame.VKind.{VKind}
 use Rattle.par_values.specs.Areas.{Name}
 use Rattle.par_frame_moves.specs.par_kinds.Kinds.{KFrame}
 use Rattle.par_frame_moves.specs.par_kinds.Acts.{Act, left_by}
-use Rattle.par_frame_pass_laws.specs.Passes.{Table, Way, Step, frame_at, act_fits}
+use Rattle.par_kinds.specs.Passes.{Table, Way, Step, frame_at, act_fits}
 use Rattle.par_frame_steps.specs.declared.act.Flow.{Flow}
 use Rattle.par_frame_steps.specs.Marks.{frame_of, flow_of}
 pub use Rattle.par_frame_guesses.specs.Frames.{table_of}

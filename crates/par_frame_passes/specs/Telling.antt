@@ -2,7 +2,7 @@
 use Rattle.std.specs.Prelude.{◌≡◌, ℕ, true, length, Some}
 use Rattle.par_class.specs.declared.file.CodeAttr.{CodeAttr}
 use Rattle.par_frame_moves.specs.par_kinds.Kinds.{KFrame}
-use Rattle.par_frame_pass_laws.specs.Passes.{Table, frame_at, is_sized}
+use Rattle.par_kinds.specs.Passes.{Table, frame_at, is_sized}
 
 -- each frame has its places, and stands where an instruction does
 abbrev pub AreSized : CodeAttr → Table → Type 0

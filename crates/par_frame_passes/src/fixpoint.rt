@@ -3,7 +3,7 @@
 ghost use Rattle.std.specs.Prelude.{◌≡◌, ◌≤◌, true, length, Some, None, IfOk};
 ghost use Rattle.par_frame_moves.specs.par_kinds.Kinds.{KFrame};
 ghost use Rattle.par_frame_moves.specs.par_kinds.Fits.{Given};
-ghost use Rattle.par_frame_pass_laws.specs.Passes.{frame_at};
+ghost use Rattle.par_kinds.specs.Passes.{frame_at};
 ghost use Rattle.par_frame_guesses.specs.Methods.{exc_of, act_in, handler_in, code_in, IsToldOf};
 ghost use Rattle.par_frame_passes.specs.Sweeps.{Kept, Settles};
 ghost use Rattle.par_frame_passes.specs.Sparing.{AreMarked};

@@ -3,7 +3,7 @@
 ghost use Rattle.std.specs.Prelude.{◌≡◌, ℕ, ◌+◌, ◌≤◌, false, [], ◌∷◌};
 ghost use Rattle.par_frame_moves.specs.par_kinds.Acts.{next_offsets};
 ghost use Rattle.par_frame_moves.specs.par_kinds.Fits.{Given};
-ghost use Rattle.par_frame_pass_laws.specs.Passes.{onward, handled};
+ghost use Rattle.par_kinds.specs.Passes.{onward, handled};
 ghost use Rattle.par_frame_steps.specs.Marks.{frame_of, flow_of};
 ghost use Rattle.par_frame_guesses.specs.Methods.{exc_of, act_in, handler_in, code_in, IsToldOf};
 ghost use Rattle.par_frame_passes.specs.Sweeps.{Went};

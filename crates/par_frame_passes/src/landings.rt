@@ -2,8 +2,8 @@
 
 ghost use Rattle.std.specs.Prelude.{◌≡◌, [], ◌∷◌, IfOk};
 ghost use Rattle.par_frame_moves.specs.par_kinds.Fits.{Given};
-ghost use Rattle.par_frame_pass_laws.specs.Passes.{Table as Frames, frame_at, landed};
-ghost use Rattle.par_frame_pass_laws.specs.Passes.{landed_at, land};
+ghost use Rattle.par_kinds.specs.Passes.{Table as Frames, frame_at, landed};
+ghost use Rattle.par_kinds.specs.Passes.{landed_at, land};
 ghost use Rattle.par_frame_steps.specs.Marks.{frame_of};
 ghost use Rattle.par_frame_guesses.specs.Methods.{exc_of, act_in, handler_in, code_in, IsToldOf};
 ghost use Rattle.par_frame_passes.specs.Tables.{table_of, way_of, landed_in, Comes};
@@ -35,7 +35,7 @@ enum Landing<'f> {
 }
 
 /// What becomes of a frame that is kept.
-#[tactic(auto, unfolding(par_frame_pass_laws::specs::Passes::landed))]
+#[tactic(auto, unfolding(par_kinds::specs::Passes::landed))]
 fn onto<'f>(
     alloc: Global,
     merges: &mut Merges<'f>,

@@ -4,7 +4,7 @@
 ghost use Rattle.std.specs.Prelude.{◌≡◌, length, IfOk, Ok, None, if◌then◌else◌};
 ghost use Rattle.std.specs.Option.{option_map};
 ghost use Rattle.par_frame_moves.specs.par_kinds.Fits.{Given};
-ghost use Rattle.par_frame_pass_laws.specs.Passes.{handled};
+ghost use Rattle.par_kinds.specs.Passes.{handled};
 ghost use Rattle.par_frame_moves.specs.par_kinds.Kinds.{Each};
 ghost use Rattle.par_frame_steps.specs.Marks.{frame_of};
 ghost use Rattle.par_frame_guesses.specs.Methods.{exc_of, act_in, handler_in, code_in, IsToldOf};

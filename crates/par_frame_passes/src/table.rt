@@ -2,7 +2,7 @@
 
 ghost use Rattle.std.specs.Prelude.{◌≡◌, slice_set, Some, IfOk};
 ghost use Rattle.std.specs.Option.{option_map};
-ghost use Rattle.par_frame_pass_laws.specs.Passes.{frame_at};
+ghost use Rattle.par_kinds.specs.Passes.{frame_at};
 ghost use Rattle.par_frame_steps.specs.Marks.{frame_of};
 ghost use Rattle.par_frame_guesses.specs.Methods.{fixed_at};
 ghost use Rattle.par_frame_passes.specs.Tables.{table_of, Taken, NewAt};

@@ -4,7 +4,7 @@ ghost use Rattle.std.specs.Prelude.{◌≡◌, ◌==◌, ◌&&◌, nat_le, true,
 ghost use Rattle.std.specs.Prelude.{length, slice_set, IfOk};
 ghost use Rattle.std.specs.Option.{option_map};
 ghost use Rattle.par_frame_moves.specs.par_kinds.Fits.{Given};
-ghost use Rattle.par_frame_pass_laws.specs.Passes.{frame_at, is_sized};
+ghost use Rattle.par_kinds.specs.Passes.{frame_at, is_sized};
 ghost use Rattle.par_frame_steps.specs.Marks.{frame_of};
 ghost use Rattle.par_frame_guesses.specs.Methods.{code_in, IsToldOf};
 ghost use Rattle.par_frame_passes.specs.Tables.{table_of};

@@ -4,7 +4,7 @@ ghost use Rattle.std.specs.Prelude.{◌≡◌, ◌≤◌, ◌<◌, length, Some,
 ghost use Rattle.std.specs.Option.{option_map};
 ghost use Rattle.par_frame_moves.specs.par_kinds.Fits.{Given};
 ghost use Rattle.par_frame_moves.specs.par_kinds.Kinds.{Each};
-ghost use Rattle.par_frame_pass_laws.specs.Passes.{Table as Frames, frame_at, handled};
+ghost use Rattle.par_kinds.specs.Passes.{Table as Frames, frame_at, handled};
 ghost use Rattle.par_frame_steps.specs.Marks.{frame_of};
 ghost use Rattle.par_frame_guesses.specs.Methods.{exc_of, act_in, handler_in, code_in};
 ghost use Rattle.par_frame_guesses.specs.Methods.{IsToldOf, fixed_at};

@@ -3,4 +3,4 @@ pub mod Padded
 pub mod Parts
 pub mod Piled
 pub mod Turned
-pub use Rattle.par_frame_pass_laws.proofs.par_kinds as par_kinds
+pub use Rattle.par_kinds.proofs as par_kinds

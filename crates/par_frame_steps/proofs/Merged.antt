@@ -1,9 +1,10 @@
 -- Pieces that were merged before, and kinds that fitted.
-use Rattle.std.proofs.Common.{◌≡◌, ℕ, zero, suc, ◌<◌, true, List, [], ◌∷◌, ◌++◌, length, get_or, set}
+use Rattle.std.proofs.Common.{◌≡◌, ℕ, zero, suc, ◌<◌, true, List, [], ◌∷◌, ◌++◌, length, get_or}
+use Rattle.std.proofs.Common.{set}
 use Rattle.std.proofs.Common.{subst, sym, ap, ◌∙◌, arith}
 use Rattle.par_values.specs.Areas.{Name}
 use Rattle.par_kinds.specs.declared.frame.VKind.{VKind}
-use Rattle.par_frame_pass_laws.specs.Passes.{all_into, merge_all}
+use Rattle.par_kinds.specs.Passes.{all_into, merge_all}
 use Rattle.par_place_kinds.specs.declared.kind.PlaceKind.{PlaceKind}
 use Rattle.par_frame_steps.specs.declared.fits.Fit.{Fit}
 use Rattle.par_frame_steps.specs.declared.merges.Merge.{Merge}

@@ -12,7 +12,7 @@ use Rattle.par_kinds.specs.declared.frame.VKind.{VKind}
 use Rattle.par_kinds.specs.declared.frame.VKind.TheVariants as kind
 use Rattle.par_kinds.specs.Kinds.{into, kind_at}
 use Rattle.par_kinds.specs.Linked.{padded}
-use Rattle.par_frame_pass_laws.specs.Passes.{all_into, merge, merge_all}
+use Rattle.par_kinds.specs.Passes.{all_into, merge, merge_all}
 use Rattle.par_place_kinds.specs.declared.kind.PlaceKind.{PlaceKind}
 use Rattle.par_place_kinds.specs.declared.kind.PlaceKind.TheVariants as place
 use Rattle.par_frame_steps.specs.Marks.{kind_of, kinds_of}

@@ -15,7 +15,7 @@ use Rattle.std.proofs.lemmas.Option.{same_Some}
 use Rattle.par_values.specs.Areas.{Name}
 use Rattle.par_kinds.specs.declared.frame.VKind.TheVariants as kind
 use Rattle.par_kinds.specs.Kinds.{into, kind_at}
-use Rattle.par_frame_pass_laws.specs.Passes.{merge, merge_all}
+use Rattle.par_kinds.specs.Passes.{merge, merge_all}
 use Rattle.par_place_kinds.specs.declared.kind.PlaceKind.{PlaceKind}
 use Rattle.par_place_kinds.specs.declared.kind.PlaceKind.TheVariants as place
 use Rattle.par_frame_steps.specs.declared.pile.TheConstants.{PIECE}

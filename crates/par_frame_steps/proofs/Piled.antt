@@ -12,7 +12,7 @@ use Rattle.std.proofs.lemmas.Option.{same_Some, slice_get_read}
 use Rattle.par_values.specs.Areas.{Name}
 use Rattle.par_kinds.specs.declared.frame.VKind.{VKind}
 use Rattle.par_kinds.specs.Kinds.{into}
-use Rattle.par_frame_pass_laws.specs.Passes.{merge, all_into, merge_all}
+use Rattle.par_kinds.specs.Passes.{merge, all_into, merge_all}
 use Rattle.par_place_kinds.specs.declared.kind.PlaceKind.{PlaceKind}
 use Rattle.par_frame_steps.specs.declared.pile.TheConstants.{PIECE, MOST_PIECES}
 use Rattle.par_frame_steps.specs.Marks.{kind_of, kinds_of}

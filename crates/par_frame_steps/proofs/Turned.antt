@@ -1,6 +1,7 @@
 -- Operands, of which the last pushed stands last, seen from the last on.
 use Rattle.std.proofs.Common.{◌≡◌, ℕ, zero, suc, ◌+◌, ◌-◌, ◌<◌, ◌≤◌, Bool, true, false, ◌&&◌}
-use Rattle.std.proofs.Common.{List, [], ◌∷◌, ◌++◌, Some, None, length, map, take, drop, refl, sym, ap, ◌∙◌, arith, inl, inr}
+use Rattle.std.proofs.Common.{List, [], ◌∷◌, ◌++◌, Some, None, length, map, take, drop, refl, sym}
+use Rattle.std.proofs.Common.{ap, ◌∙◌, arith, inl, inr}
 use Rattle.std.proofs.Common.{reverse, get_or}
 use Rattle.std.specs.List.{slice_get, drop-map}
 use Rattle.std.proofs.lemmas.List.{reverse-append, length-reverse, length-map, take-append-drop}
@@ -13,7 +14,7 @@ use Rattle.par_values.specs.declared.kind.Kind.{Kind}
 use Rattle.par_kinds.specs.declared.frame.VKind.{VKind}
 use Rattle.par_kinds.specs.declared.frame.VKind.TheVariants as kind
 use Rattle.par_kinds.specs.Kinds.{into, accepts, kind_at}
-use Rattle.par_frame_pass_laws.specs.Passes.{merge, all_into, merge_all, takes_fit}
+use Rattle.par_kinds.specs.Passes.{merge, all_into, merge_all, takes_fit}
 use Rattle.par_place_kinds.specs.declared.kind.PlaceKind.{PlaceKind}
 use Rattle.par_frame_steps.specs.declared.act.Asked.{Asked}
 use Rattle.par_frame_steps.specs.Marks.{kind_of, kinds_of, operands_of, asked_of}

@@ -1,7 +1,7 @@
 -- Pieces that were merged before, and kinds that fitted.
 use Rattle.std.specs.Prelude.{◌≡◌, true, List, [], ◌∷◌}
 use Rattle.par_values.specs.Areas.{Name}
-use Rattle.par_frame_pass_laws.specs.Passes.{all_into, merge_all}
+use Rattle.par_kinds.specs.Passes.{all_into, merge_all}
 use Rattle.par_frame_steps.specs.declared.fits.Fit.{Fit}
 use Rattle.par_frame_steps.specs.declared.merges.Merge.{Merge}
 use Rattle.par_frame_steps.specs.Marks.{kinds_of}

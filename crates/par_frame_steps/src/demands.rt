@@ -2,7 +2,7 @@
 
 ghost use Rattle.std.specs.Prelude.{◌≡◌, [], ◌∷◌, drop, map};
 ghost use Rattle.par_kinds.specs.Kinds.{accepts, kind_at};
-ghost use Rattle.par_frame_pass_laws.specs.Passes.{takes_fit, also_fits, act_fits};
+ghost use Rattle.par_kinds.specs.Passes.{takes_fit, also_fits, act_fits};
 ghost use Rattle.par_frame_steps.specs.Marks.{names, kind_of, operands_of, frame_of};
 ghost use Rattle.par_frame_steps.specs.Marks.{asked_of, also_of, act_of};
 

@@ -1,7 +1,7 @@
 //! Kinds that were seen to fit into others.
 
 ghost use Rattle.std.specs.Prelude.{◌≡◌, length, IsTrue, IfOk};
-ghost use Rattle.par_frame_pass_laws.specs.Passes.{all_into};
+ghost use Rattle.par_kinds.specs.Passes.{all_into};
 ghost use Rattle.par_frame_steps.specs.Marks.{names, kinds_of};
 ghost use Rattle.par_frame_steps.specs.Piled.{joined, AreWhole};
 

@@ -1,8 +1,8 @@
 //! Frames of kinds.
 
 ghost use Rattle.std.specs.Prelude.{◌≡◌, IsTrue, IfOk, length};
-ghost use Rattle.par_frame_pass_laws.specs.Passes.{all_into, merge_all, frame_into, merge_frames};
-ghost use Rattle.par_frame_pass_laws.specs.Passes.{same_lengths};
+ghost use Rattle.par_kinds.specs.Passes.{all_into, merge_all, frame_into, merge_frames};
+ghost use Rattle.par_kinds.specs.Passes.{same_lengths};
 ghost use Rattle.par_frame_steps.specs.Marks.{names, kinds_of, operands_of, locals_of};
 ghost use Rattle.par_frame_steps.specs.Marks.{frame_of};
 

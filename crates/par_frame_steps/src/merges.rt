@@ -2,7 +2,7 @@
 
 ghost use Rattle.std.specs.Prelude.{◌≡◌, List, map, IsTrue, IfOk, IfSome};
 ghost use Rattle.par_values.specs.Areas.{Name};
-ghost use Rattle.par_frame_pass_laws.specs.Passes.{merge_all};
+ghost use Rattle.par_kinds.specs.Passes.{merge_all};
 ghost use Rattle.par_frame_steps.specs.Marks.{names, kinds_of};
 ghost use Rattle.par_frame_steps.specs.Merged.{AreMerges};
 

@@ -2,7 +2,7 @@
 
 ghost use Rattle.std.specs.Prelude.{◌≡◌, ◌<◌, ◌≤◌, [], ◌∷◌, ◌++◌, length, take, slice_set, IfOk};
 ghost use Rattle.std.specs.Prelude.{slice_index_or, IfSome};
-ghost use Rattle.par_frame_pass_laws.specs.Passes.{all_into};
+ghost use Rattle.par_kinds.specs.Passes.{all_into};
 ghost use Rattle.par_frame_steps.specs.Marks.{names, kinds_of};
 ghost use Rattle.par_frame_steps.specs.Piled.{joined, AreWhole};
 ghost use Rattle.par_frame_steps.specs.declared.pile.TheConstants.{MOST_PIECES};

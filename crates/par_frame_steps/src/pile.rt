@@ -3,7 +3,7 @@
 ghost use Rattle.std.specs.Prelude.{◌≡◌, ◌-◌, ◌*◌, ◌<◌, ◌≤◌, [], ◌∷◌, ◌++◌, length, take, drop};
 ghost use Rattle.std.specs.Prelude.{reverse, slice_set, IfOk};
 ghost use Rattle.std.specs.List.{slice_get};
-ghost use Rattle.par_frame_pass_laws.specs.Passes.{all_into, merge_all};
+ghost use Rattle.par_kinds.specs.Passes.{all_into, merge_all};
 ghost use Rattle.par_kinds.specs.Kinds.{kind_at};
 ghost use Rattle.par_place_kinds.specs.Listed.{listed_into};
 ghost use Rattle.par_frame_steps.specs.Marks.{names, kind_of, kinds_of};

@@ -12,7 +12,7 @@ use Rattle.par_typed.specs.declared.table.MethodInfo.{MethodInfo}
 use Rattle.par_typed.specs.declared.table.ParamInfo.{ParamInfo}
 use Rattle.par_typed.specs.declared.table.Table.{Table}
 use Rattle.par_typed.specs.Plain.{TSta}
-use Rattle.par_body_laws.specs.Locals.{BeginsWith, arriving}
+use Rattle.par_program_laws.specs.Locals.{BeginsWith, arriving}
 use Rattle.par_erase.specs.Erased.{erased_method, erased_param}
 use Rattle.par_class.specs.declared.file.ClassFile.{ClassFile}
 use Rattle.par_class.specs.declared.file.MethodFile.{MethodFile}
@@ -21,23 +21,23 @@ use Rattle.par_values.specs.Areas.{Name}
 use Rattle.par_single.specs.Descriptors.{Text, kind_at, kinds_in}
 use Rattle.par_single.specs.Links.{signature_said, signature_or_none}
 use Rattle.par_single.specs.Members.{own_name, text_at, is_static}
-use Rattle.par_read_frame_laws.specs.par_kinds.declared.frame.VKind.{VKind}
-use Rattle.par_read_frame_laws.specs.par_kinds.Kinds.{vkind}
-use Rattle.par_read_frame_laws.specs.par_kinds.Linked.{given_to}
-use Rattle.par_read_frame_laws.specs.par_frames.Given.{start_of}
+use Rattle.par_given_frames.specs.par_kinds.declared.frame.VKind.{VKind}
+use Rattle.par_given_frames.specs.par_kinds.Kinds.{vkind}
+use Rattle.par_given_frames.specs.par_kinds.Linked.{given_to}
+use Rattle.par_given_frames.specs.par_frames.Given.{start_of}
 use Rattle.par_code_form.specs.declared.labelled.Labelled.{Labelled}
 use Rattle.par_code_form.specs.Frames.{Types, slot}
 use Rattle.par_code_form.specs.Method.{set_by_call, labelled}
 use Rattle.par_code_form.specs.Named.{class_word, words_of}
-use Rattle.par_read_frame_laws.specs.par_frame_laws.Framed.{kind_of, kinds_of}
-use Rattle.par_read_frame_laws.specs.par_given_frames.Laws.{AreNamedKinds}
-use Rattle.par_descriptor_laws.specs.Laws as said
-use Rattle.par_descriptor_laws.specs.Laws.{HasValueTypes}
-use Rattle.par_descriptor_laws.proofs.Described.{methods_are_described}
+use Rattle.par_compile_laws.specs.Framed.{kind_of, kinds_of}
+use Rattle.par_given_frames.specs.Laws.{AreNamedKinds}
+use Rattle.par_compile_laws.specs.DescriptorLaws as said
+use Rattle.par_compile_laws.specs.DescriptorLaws.{HasValueTypes}
+use Rattle.par_compile_laws.proofs.Described.{methods_are_described}
 use Rattle.par_file_run_laws.specs.par_compile_laws.Members.{Member, member_access, initializer}
 use Rattle.par_file_run_laws.specs.par_compile_laws.Members.{initializer_of, method}
 use Rattle.par_file_run_laws.specs.par_compile_laws.Files.{IsMethodOf}
-use Rattle.par_file_run_laws.proofs.par_layout_laws.Texts.{text-said}
+use Rattle.par_file_run_laws.proofs.Texts.{text-said}
 
 -- the code of a method begins with what its file says
 pub record Begins (file : ClassFile) (m : MethodFile) (code : Labelled) : Type 0 where

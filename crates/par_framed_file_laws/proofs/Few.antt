@@ -8,17 +8,17 @@ use Rattle.par_code_form.specs.declared.item.Item.{Item}
 use Rattle.par_code_form.specs.declared.item.Item.TheVariants.{Label}
 use Rattle.par_code_form.specs.declared.labelled.LabelFrame.{LabelFrame}
 use Rattle.par_code_form.specs.declared.labelled.Labelled.{Labelled}
-use Rattle.par_place_laws.specs.Placed.{offset_of, offset_at}
-use Rattle.par_place_laws.specs.Placeable.{MOST_BYTES, most_bytes}
-use Rattle.par_place_laws.specs.Framed.{AreFramesPlaceable}
+use Rattle.par_code_form.specs.Placed.{offset_of, offset_at}
+use Rattle.par_code_form.specs.Placeable.{MOST_BYTES, most_bytes}
+use Rattle.par_code_form.specs.PlaceableFrames.{AreFramesPlaceable}
 use Rattle.par_place.proofs.Sizes.{offset_is}
 use Rattle.par_place.proofs.Written.{size-most}
-use Rattle.par_read_frame_laws.specs.par_kinds.declared.frame.PlacedFrame.{PlacedFrame}
-use Rattle.par_read_frame_laws.specs.par_frames.Room.{offsets}
-use Rattle.par_read_frame_laws.proofs.par_frames.Said.{few_offsets}
-use Rattle.par_read_frame_laws.specs.par_frame_laws.Framed.{frame_at, frame_of, frames_of}
-use Rattle.par_needed_frame_laws.proofs.par_framing.Written.{frame_once}
-use Rattle.par_needed_frame_laws.proofs.par_framing.Climbing.{climbs, ascends}
+use Rattle.par_given_frames.specs.par_kinds.declared.frame.PlacedFrame.{PlacedFrame}
+use Rattle.par_given_frames.specs.par_frames.Room.{offsets}
+use Rattle.par_given_frames.proofs.par_frames.Said.{few_offsets}
+use Rattle.par_compile_laws.specs.Framed.{frame_at, frame_of, frames_of}
+use Rattle.par_framing.proofs.Written.{frame_once}
+use Rattle.par_framing.proofs.Climbing.{climbs, ascends}
 
 -- no offset is beyond the most bytes of the items
 within : (p : ℕ) (xs : List Item) (ns : List ℕ) → offset_at p xs ns ≤ sum_by most_bytes xs

@@ -6,8 +6,8 @@ use Rattle.par_typed.specs.Plain.{Close, SetLocal, SetStatic, SetField, Eval, Wh
 use Rattle.par_typed.specs.Plain.{MayTSta, NoElse, Otherwise, TStas, End, Then, TCatches, NoCatch}
 use Rattle.par_typed.specs.Plain.{Catch}
 use Rattle.par_completes.specs.Typed.{completes}
-use Rattle.par_needed_frame_laws.specs.par_typed_laws.Control.{StaReached, ElseReached, AllReached}
-use Rattle.par_needed_frame_laws.specs.par_typed_laws.Control.{CatchesReached}
+use Rattle.par_typed_laws.specs.Control.{StaReached, ElseReached, AllReached}
+use Rattle.par_typed_laws.specs.Control.{CatchesReached}
 use Rattle.par_erase.specs.Asked.{Locks}
 use Rattle.par_erase.specs.Erased.{erased_sta, erased_else, erased_all, erased_catches, set_if}
 use Rattle.par_file_run_laws.proofs.par_source_code_laws.Marks.{completes_of}

@@ -6,9 +6,9 @@ use Rattle.par_policy.proofs.Ordered.{Contains-nil, Contains-cons_cases, Contain
 use Rattle.par_policy.proofs.Ordered.{Contains-later}
 use Rattle.par_class.specs.declared.file.CodeAttr.{CodeAttr}
 use Rattle.par_single.specs.Walk.{starts_at}
-use Rattle.par_read_frame_laws.specs.par_kinds.declared.frame.PlacedFrame.{PlacedFrame}
-use Rattle.par_read_frame_laws.specs.par_frames.Broken.{IsPlacedIn, HasFrame}
-use Rattle.par_read_frame_laws.specs.par_given_frames.Laws.{TellsSame, AreWithin}
+use Rattle.par_given_frames.specs.par_kinds.declared.frame.PlacedFrame.{PlacedFrame}
+use Rattle.par_given_frames.specs.par_frames.Broken.{IsPlacedIn, HasFrame}
+use Rattle.par_given_frames.specs.Laws.{TellsSame, AreWithin}
 
 -- what holds of each item
 pub each-of : {A : Type 0} (P : A → Type 0) (xs : List A) → ((x : A) → Contains xs x → P x)

@@ -11,9 +11,9 @@ use Rattle.par_typed.specs.declared.table.MethodInfo.{MethodInfo}
 use Rattle.par_typed.specs.declared.table.Table.{Table}
 use Rattle.par_typed.specs.Plain.{TSta, Body}
 use Rattle.par_typed.specs.Members.{method_at}
-use Rattle.par_body_laws.specs.Proper.{IsProper}
-use Rattle.par_needed_frame_laws.specs.par_typed_laws.Control.{StaReached, IsControlled}
-use Rattle.par_needed_frame_laws.specs.par_typed_laws.WellTyped.{IsWellTyped}
+use Rattle.par_program_laws.specs.Proper.{IsProper}
+use Rattle.par_typed_laws.specs.Control.{StaReached, IsControlled}
+use Rattle.par_typed_laws.specs.WellTyped.{IsWellTyped}
 use Rattle.par_run_laws.specs.Names.{body_of}
 use Rattle.par_erase.specs.Asked.{asked_in}
 use Rattle.par_erase.specs.Erased.{erased_table, erased_bodies, erased_sta}
@@ -21,21 +21,21 @@ use Rattle.par_code_form.specs.declared.labelled.Labelled.{Labelled}
 use Rattle.par_code_form.specs.Code.{Words}
 use Rattle.par_code_form.specs.Method.{labelled}
 use Rattle.par_code_form.specs.Named.{class_word, words_of}
-use Rattle.par_place_laws.specs.Placeable.{FitsItem, MOST_BYTES, most_bytes}
-use Rattle.par_place_laws.specs.Framed.{FitsFrame, AreFramesPlaceable}
-use Rattle.par_file_run_laws.specs.par_placeable_laws.Laws.{IsReadyBody}
-use Rattle.par_file_run_laws.proofs.par_placeable_laws.Bodies.{all_ready}
-use Rattle.par_file_run_laws.proofs.par_placeable_laws.Words.{words_are_texts}
+use Rattle.par_code_form.specs.Placeable.{FitsItem, MOST_BYTES, most_bytes}
+use Rattle.par_code_form.specs.PlaceableFrames.{FitsFrame, AreFramesPlaceable}
+use Rattle.par_file_run_laws.specs.par_source_code_laws.PlaceableLaws.{IsReadyBody}
+use Rattle.par_file_run_laws.proofs.par_source_code_laws.PlaceableBodies.{all_ready}
+use Rattle.par_file_run_laws.proofs.par_source_code_laws.Words.{words_are_texts}
 use Rattle.par_file_run_laws.proofs.par_source_code_laws.Bodies.{IsFound, found, bodies_are_erased}
 use Rattle.par_file_run_laws.specs.par_compile_laws.Constants.{frame_classes}
 use Rattle.par_file_run_laws.specs.par_compile_laws.Members.{initializer_of}
 use Rattle.par_file_run_laws.specs.par_link_laws.Linkable.{IsLinkable, ClassLinks, IsClassWord}
-use Rattle.par_file_run_laws.proofs.par_layout_laws.Lists.{each-item}
-use Rattle.par_file_run_laws.proofs.par_layout_laws.Known.{word-is}
+use Rattle.par_file_run_laws.proofs.Lists.{each-item}
+use Rattle.par_file_run_laws.proofs.Known.{word-is}
 use Rattle.par_file_run_laws.proofs.Simple.{each, all_named}
 use Rattle.par_file_run_laws.proofs.Fitting.{initializer_fits}
-use Rattle.par_needed_frame_laws.specs.Met.{lands, AreMet, HasNeededFrames}
-use Rattle.par_needed_frame_laws.proofs.Labels.{bodies_have_frames}
+use Rattle.par_framed_file_laws.specs.Met.{lands, AreMet, HasNeededFrames}
+use Rattle.par_framed_file_laws.proofs.Labels.{bodies_have_frames}
 use Rattle.par_framed_file_laws.proofs.Reached.{sta_reached}
 
 -- code whose frames stand where they are needed, and name classes

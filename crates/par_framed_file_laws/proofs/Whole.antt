@@ -13,51 +13,51 @@ use Rattle.par_typed.specs.declared.table.MethodInfo.{MethodInfo}
 use Rattle.par_typed.specs.declared.table.Table.{Table}
 use Rattle.par_typed.specs.Plain.{TSta, Body}
 use Rattle.par_typed.specs.Members.{methods_in, method_at}
-use Rattle.par_body_laws.specs.Locals.{BeginsWith, arriving}
+use Rattle.par_program_laws.specs.Locals.{BeginsWith, arriving}
 use Rattle.par_run_laws.specs.Names.{body_of}
 use Rattle.par_erase.specs.Erased.{erased_table, erased_bodies, erased_method}
 use Rattle.par_class.specs.declared.file.ClassFile.{ClassFile}
 use Rattle.par_class.specs.declared.file.CodeAttr.{CodeAttr}
 use Rattle.par_class.specs.declared.file.MethodFile.{MethodFile}
 use Rattle.par_single.specs.Members.{own_name}
-use Rattle.par_read_frame_laws.specs.par_kinds.declared.frame.MethodFrames.{MethodFrames}
-use Rattle.par_read_frame_laws.specs.par_kinds.declared.frame.PlacedFrame.{PlacedFrame}
-use Rattle.par_read_frame_laws.specs.par_frames.Broken.{IsPlacedIn, AreGiven, AreGivenIn}
-use Rattle.par_read_frame_laws.specs.par_frames.Broken.{AreFramesIf}
-use Rattle.par_read_frame_laws.specs.par_frames.Broken.{HasFrames}
+use Rattle.par_given_frames.specs.par_kinds.declared.frame.MethodFrames.{MethodFrames}
+use Rattle.par_given_frames.specs.par_kinds.declared.frame.PlacedFrame.{PlacedFrame}
+use Rattle.par_given_frames.specs.par_frames.Broken.{IsPlacedIn, AreGiven, AreGivenIn}
+use Rattle.par_given_frames.specs.par_frames.Broken.{AreFramesIf}
+use Rattle.par_given_frames.specs.par_frames.Broken.{HasFrames}
 use Rattle.par_code_form.specs.declared.labelled.LabelFrame.{LabelFrame}
 use Rattle.par_code_form.specs.declared.labelled.Labelled.{Labelled}
 use Rattle.par_code_form.specs.declared.labelled.Slot.{Slot}
 use Rattle.par_code_form.specs.declared.labelled.Slot.TheVariants as slot
 use Rattle.par_code_form.specs.Method.{labelled}
 use Rattle.par_code_form.specs.Named.{class_word, words_of}
-use Rattle.par_place_laws.specs.Named.{Names}
-use Rattle.par_place_laws.specs.Placed.{offset_of}
-use Rattle.par_read_frame_laws.specs.par_frame_laws.Framed.{kinds_of, placed, frames_of}
-use Rattle.par_read_frame_laws.specs.par_frame_laws.Framed.{IsPlacedWith}
-use Rattle.par_needed_frame_laws.proofs.par_framing.Written.{each_written}
-use Rattle.par_read_frame_laws.specs.par_given_frames.Laws.{AreNamedKinds, IsNamedFrame, TellsSame}
-use Rattle.par_read_frame_laws.specs.par_given_frames.Laws.{AreWithin}
-use Rattle.par_read_frame_laws.proofs.par_frames.Again.{written_kinds_are_read}
-use Rattle.par_read_frame_laws.proofs.par_given_frames.Written.{frames-again}
-use Rattle.par_read_frame_laws.specs.Laws.{PlacedFramesAreRead}
-use Rattle.par_read_frame_laws.proofs.Read.{placed-again}
+use Rattle.par_code_form.specs.PoolNames.{Names}
+use Rattle.par_code_form.specs.Placed.{offset_of}
+use Rattle.par_compile_laws.specs.Framed.{kinds_of, placed, frames_of}
+use Rattle.par_compile_laws.specs.Framed.{IsPlacedWith}
+use Rattle.par_framing.proofs.Written.{each_written}
+use Rattle.par_given_frames.specs.Laws.{AreNamedKinds, IsNamedFrame, TellsSame}
+use Rattle.par_given_frames.specs.Laws.{AreWithin}
+use Rattle.par_given_frames.proofs.par_frames.Again.{written_kinds_are_read}
+use Rattle.par_given_frames.proofs.Written.{frames-again}
+use Rattle.par_framed_file_laws.specs.ReadLaws.{PlacedFramesAreRead}
+use Rattle.par_framed_file_laws.proofs.Read.{placed-again}
 use Rattle.par_file_run_laws.proofs.par_source_code_laws.Members.{method_erased}
-use Rattle.par_descriptor_laws.specs.Laws.{HasValueTypes}
+use Rattle.par_compile_laws.specs.DescriptorLaws.{HasValueTypes}
 use Rattle.par_file_run_laws.specs.par_compile_laws.Constants.{slot_class, frame_classes}
 use Rattle.par_file_run_laws.specs.par_compile_laws.Members.{Member, initializer, initializer_of}
 use Rattle.par_file_run_laws.specs.par_compile_laws.Members.{channel, method}
 use Rattle.par_file_run_laws.specs.par_compile_laws.Members.{methods_from, members}
 use Rattle.par_file_run_laws.specs.par_compile_laws.Files.{IsMethodOf, IsCodeWith, HasCodeWith}
 use Rattle.par_file_run_laws.specs.par_compile_laws.Files.{version}
-use Rattle.par_file_run_laws.specs.par_layout_laws.Parts.{Known}
-use Rattle.par_file_run_laws.proofs.par_layout_laws.Known.{word-is}
-use Rattle.par_file_run_laws.proofs.par_layout_laws.Texts.{class-said}
+use Rattle.par_file_run_laws.specs.Parts.{Known}
+use Rattle.par_file_run_laws.proofs.Known.{word-is}
+use Rattle.par_file_run_laws.proofs.Texts.{class-said}
 use Rattle.par_framed_program.specs.Framed.{IsFramed}
 use Rattle.par_file_run_laws.specs.Laws.{AreLoadedFor}
 pub use Rattle.par_file_run_laws.proofs.Composed.{known}
 pub use Rattle.par_file_run_laws.proofs.Whole.{parts, files_show, files_show_whole}
-use Rattle.par_needed_frame_laws.proofs.Whole.{placed_code_is_framed}
+use Rattle.par_framed_file_laws.proofs.NeededFrames.{placed_code_is_framed}
 use Rattle.par_framed_file_laws.specs.Laws.{IsVersionedFile, LoadedFilesAreFramed}
 use Rattle.par_framed_file_laws.proofs.Sound.{IsSound, initializer_sound, method_sound, body_found}
 use Rattle.par_framed_file_laws.proofs.Begins.{Begins, initializer_begins, method_begins}

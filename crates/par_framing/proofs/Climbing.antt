@@ -13,14 +13,14 @@ use Rattle.par_code_form.specs.declared.labelled.LabelFrame.{LabelFrame}
 use Rattle.par_code_form.specs.declared.labelled.Labelled.{Labelled}
 use Rattle.par_kinds.specs.declared.frame.PlacedFrame.{PlacedFrame}
 use Rattle.par_frames.specs.Room.{Ascend, offsets}
-use Rattle.par_place.specs.par_place_laws.Placed.{size, offset_of, offset_at}
-use Rattle.par_place.specs.par_place_laws.Placeable.{MOST_BYTES}
-use Rattle.par_place.specs.par_place_laws.Framed.{AreFramesPlaceable}
+use Rattle.par_place.specs.par_code_form.Placed.{size, offset_of, offset_at}
+use Rattle.par_place.specs.par_code_form.Placeable.{MOST_BYTES}
+use Rattle.par_place.specs.par_code_form.PlaceableFrames.{AreFramesPlaceable}
 use Rattle.par_place.specs.Offsets.{AreSmall}
 use Rattle.par_place.proofs.Sizes.{offset_is}
-use Rattle.par_framing.specs.par_frame_laws.Framed.{placed_at, frame_at, frame_of, before}
-use Rattle.par_framing.specs.par_frame_laws.Framed.{last_ones}
-use Rattle.par_framing.specs.par_frame_laws.Framed.{frames_with}
+use Rattle.par_compile_laws.specs.Framed.{placed_at, frame_at, frame_of, before}
+use Rattle.par_compile_laws.specs.Framed.{last_ones}
+use Rattle.par_compile_laws.specs.Framed.{frames_with}
 use Rattle.par_framing.specs.Added.{HasLabelOffsets}
 use Rattle.par_framing.proofs.Written.{frame_once}
 

@@ -11,7 +11,7 @@ use Rattle.par_code_form.specs.declared.item.Item.{Item}
 use Rattle.par_code_form.specs.declared.item.Item.TheVariants.{Label, Op, Const, Jump, Member}
 use Rattle.par_code_form.specs.declared.item.Item.TheVariants.{ClassOp, LockOp}
 use Rattle.par_code_form.specs.declared.labelled.LabelFrame.{LabelFrame}
-use Rattle.par_frame_laws.specs.Framed.{placed, placed_at, frame_at, frame_of}
+use Rattle.par_compile_laws.specs.Framed.{placed, placed_at, frame_at, frame_of}
 use Rattle.par_framing.specs.First.{AreFirst, item_frame}
 use Rattle.par_framing.specs.Joined.{HasLabel}
 

@@ -9,7 +9,7 @@ use Rattle.par_kinds.specs.declared.frame.PlacedFrame.{PlacedFrame}
 use Rattle.par_code_form.specs.declared.item.Item.{Item}
 use Rattle.par_code_form.specs.declared.labelled.LabelFrame.{LabelFrame}
 use Rattle.par_code_form.specs.declared.labelled.Labelled.{Labelled}
-use Rattle.par_frame_laws.specs.Framed.{before, last_ones, frame_of, frames_with}
+use Rattle.par_compile_laws.specs.Framed.{before, last_ones, frame_of, frames_with}
 use Rattle.par_framing.specs.Joined.{last_at, ends_at, joined_behind, joined, added}
 
 -- ---- a list that is cut, or is not

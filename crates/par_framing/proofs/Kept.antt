@@ -18,7 +18,7 @@ use Rattle.par_class.specs.Spelling.{is_code_length}
 use Rattle.par_values.specs.Areas.{Name}
 use Rattle.par_code_form.specs.declared.labelled.Labelled.{Labelled}
 use Rattle.par_frames.specs.Room.{HasRoom, HasClass}
-use Rattle.par_place.specs.par_place_laws.Placed.{offset_of, IsPlaced, IsCatch}
+use Rattle.par_place.specs.par_code_form.Placed.{offset_of, IsPlaced, IsCatch}
 use Rattle.par_place.proofs.Growth.{all_names_kept, all_catches_kept}
 
 pub grows : (old new more : List Constant) → new ≡ old ++ more

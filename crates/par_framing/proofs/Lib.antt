@@ -5,4 +5,4 @@ pub mod Climbing
 pub mod Kept
 pub mod Tables
 pub mod Whole
-pub use Rattle.par_frame_laws.proofs.par_frames as par_frames
+pub use Rattle.par_compile_laws.proofs.par_frames as par_frames

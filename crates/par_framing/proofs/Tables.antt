@@ -16,11 +16,11 @@ use Rattle.par_values.specs.Areas.{Name}
 use Rattle.par_code_form.specs.declared.labelled.Labelled.{Labelled}
 use Rattle.par_kinds.specs.declared.frame.PlacedFrame.{PlacedFrame}
 use Rattle.par_frames.specs.Attribute.{IsAttribute, AddsClasses}
-use Rattle.par_place.specs.par_place_laws.Named.{IsConstantOf}
+use Rattle.par_place.specs.par_code_form.PoolNames.{IsConstantOf}
 use Rattle.par_place.proofs.Growth.{named_kept, caught_kept}
-use Rattle.par_framing.specs.par_frame_laws.Framed.{TABLE, AreAttributes, kinds_of}
-use Rattle.par_framing.specs.par_frame_laws.Framed.{frame_classes}
-use Rattle.par_framing.specs.par_frame_laws.Framed.{IsConstantWith}
+use Rattle.par_compile_laws.specs.Framed.{TABLE, AreAttributes, kinds_of}
+use Rattle.par_compile_laws.specs.Framed.{frame_classes}
+use Rattle.par_compile_laws.specs.Framed.{IsConstantWith}
 use Rattle.par_framing.specs.Added.{IsTablePart, AddsTable, AddsConstants, AreSized}
 use Rattle.par_framing.proofs.Kept.{grows}
 

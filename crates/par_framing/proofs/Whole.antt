@@ -10,13 +10,13 @@ use Rattle.par_class.specs.declared.file.CodeAttr.{CodeAttr}
 use Rattle.par_values.specs.Areas.{Name}
 use Rattle.par_code_form.specs.declared.labelled.Labelled.{Labelled}
 use Rattle.par_frames.specs.Room.{HasRoom, SPARE}
-use Rattle.par_place.specs.par_place_laws.Named.{Names, IsConstantOf, entry_count}
-use Rattle.par_place.specs.par_place_laws.Placed.{IsPlaced}
-use Rattle.par_place.specs.par_place_laws.Framed.{AreFramesPlaceable}
+use Rattle.par_place.specs.par_code_form.PoolNames.{Names, IsConstantOf, entry_count}
+use Rattle.par_place.specs.par_code_form.Placed.{IsPlaced}
+use Rattle.par_place.specs.par_code_form.PlaceableFrames.{AreFramesPlaceable}
 use Rattle.par_place.specs.Labels.{IsPlacedAt}
-use Rattle.par_framing.specs.par_frame_laws.Framed.{frames_with, AreAttributes}
-use Rattle.par_framing.specs.par_frame_laws.Framed.{IsPlacedWith, frame_classes}
-use Rattle.par_framing.specs.par_frame_laws.Framed.{classes_with, entries_with}
+use Rattle.par_compile_laws.specs.Framed.{frames_with, AreAttributes}
+use Rattle.par_compile_laws.specs.Framed.{IsPlacedWith, frame_classes}
+use Rattle.par_compile_laws.specs.Framed.{classes_with, entries_with}
 use Rattle.par_framing.specs.Added.{HasLabelOffsets, spare_with}
 use Rattle.par_framing.proofs.Kept.{HasParts, placed_kept, room_behind}
 use Rattle.par_framing.proofs.Written.{frames_same}

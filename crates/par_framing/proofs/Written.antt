@@ -20,15 +20,15 @@ use Rattle.par_kinds.specs.declared.frame.PlacedFrame.{PlacedFrame}
 use Rattle.par_frames.specs.Names as named
 use Rattle.par_frames.specs.Names.{classes_named}
 use Rattle.par_frames.specs.Room.{IsShort}
-use Rattle.par_place.specs.par_place_laws.Placed.{offset_of}
-use Rattle.par_place.specs.par_place_laws.Placeable.{StandsOnce}
-use Rattle.par_place.specs.par_place_laws.Framed.{FitsFrame, AreFramesPlaceable}
+use Rattle.par_place.specs.par_code_form.Placed.{offset_of}
+use Rattle.par_place.specs.par_code_form.Placeable.{StandsOnce}
+use Rattle.par_place.specs.par_code_form.PlaceableFrames.{FitsFrame, AreFramesPlaceable}
 use Rattle.par_place.specs.Offsets.{HasOffsets}
-use Rattle.par_framing.specs.par_frame_laws.Framed.{kind_of, placed, placed_at, frame_at}
-use Rattle.par_framing.specs.par_frame_laws.Framed.{frame_of, before}
-use Rattle.par_framing.specs.par_frame_laws.Framed.{last_ones, frames_with, frames_of}
-use Rattle.par_framing.specs.par_frame_laws.Framed.{classes_in}
-use Rattle.par_framing.specs.par_frame_laws.Framed.{frame_classes}
+use Rattle.par_compile_laws.specs.Framed.{kind_of, placed, placed_at, frame_at}
+use Rattle.par_compile_laws.specs.Framed.{frame_of, before}
+use Rattle.par_compile_laws.specs.Framed.{last_ones, frames_with, frames_of}
+use Rattle.par_compile_laws.specs.Framed.{classes_in}
+use Rattle.par_compile_laws.specs.Framed.{frame_classes}
 use Rattle.par_framing.specs.Joined.{HasLabel}
 use Rattle.par_framing.proofs.Firsts.{label_is, frame_has}
 use Rattle.par_framing.specs.Added.{HasLabelOffsets}

@@ -10,7 +10,7 @@ use Rattle.par_values.specs.Areas.{Name}
 use Rattle.par_code_form.specs.declared.labelled.Labelled.{Labelled}
 use Rattle.par_frames.specs.Room.{SPARE}
 use Rattle.par_place.specs.Offsets.{HasOffsets, AreSmall}
-use Rattle.par_framing.specs.par_frame_laws.Framed.{TABLE, IsConstantWith}
+use Rattle.par_compile_laws.specs.Framed.{TABLE, IsConstantWith}
 
 -- the name of the attribute, or a part of one of these classes
 abbrev pub IsTablePart : List Constant → List Name → Constant → Type 0

@@ -3,7 +3,7 @@ use Rattle.std.specs.Prelude.{◌≡◌, ℕ, List, length, Option, None, slice_
 use Rattle.par_code_form.specs.declared.item.Item.{Item}
 use Rattle.par_code_form.specs.declared.item.Item.TheVariants.{Label}
 use Rattle.par_code_form.specs.declared.labelled.LabelFrame.{LabelFrame}
-use Rattle.par_frame_laws.specs.Framed.{frame_at}
+use Rattle.par_compile_laws.specs.Framed.{frame_at}
 
 -- By the number of a label stands the place, among all frames, of its first one in some frames;
 -- a place behind all where it has none.

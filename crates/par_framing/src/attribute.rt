@@ -6,9 +6,9 @@ ghost use Rattle.par_values.specs.Areas.{Name};
 ghost use Rattle.par_class.specs.Spelling.{FitsAttribute, AllFit};
 ghost use Rattle.par_frames.specs.Names.{classes_named};
 ghost use Rattle.par_frames.specs.Room.{HasRoom, IsShort, Ascend, offsets, SPARE};
-ghost use Rattle.par_place.specs.par_place_laws.Framed.{AreFramesPlaceable};
-ghost use Rattle.par_framing.specs.par_frame_laws.Framed.{AreAttributes, frames_with};
-ghost use Rattle.par_framing.specs.par_frame_laws.Framed.{frame_classes};
+ghost use Rattle.par_place.specs.par_code_form.PlaceableFrames.{AreFramesPlaceable};
+ghost use Rattle.par_compile_laws.specs.Framed.{AreAttributes, frames_with};
+ghost use Rattle.par_compile_laws.specs.Framed.{frame_classes};
 ghost use Rattle.par_framing.specs.Added.{AddsTable, AreSized, HasLabelOffsets};
 
 use crate::kinds::kinds_of;

@@ -1,7 +1,7 @@
 //! The kinds of what slots hold.
 
 ghost use Rattle.std.specs.Prelude.{◌≡◌, IfOk};
-ghost use Rattle.par_frame_laws.specs.Framed as spec;
+ghost use Rattle.par_compile_laws.specs.Framed as spec;
 
 use par_base::list::List;
 use par_base::memory::NoMemory;

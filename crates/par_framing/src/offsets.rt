@@ -5,8 +5,8 @@ ghost use Rattle.std.specs.Vec.{vec_len};
 ghost use Rattle.par_framing.specs.First.{AreFirst};
 ghost use Rattle.par_framing.specs.Joined as joined;
 ghost use Rattle.par_framing.specs.Joined.{added, joined, HasLabel};
-ghost use Rattle.par_frame_laws.specs.Framed as spec;
-ghost use Rattle.par_frame_laws.specs.Framed.{frames_with};
+ghost use Rattle.par_compile_laws.specs.Framed as spec;
+ghost use Rattle.par_compile_laws.specs.Framed.{frames_with};
 
 use crate::first::{first_places, frame_of};
 use crate::kinds::placed;

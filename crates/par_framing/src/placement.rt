@@ -5,10 +5,10 @@ ghost use Rattle.std.specs.Prelude.{List as Items};
 ghost use Rattle.par_values.specs.Areas.{Name};
 ghost use Rattle.par_class.specs.Spelling.{FitsCode};
 ghost use Rattle.par_frames.specs.Room.{HasRoom};
-ghost use Rattle.par_place.specs.par_place_laws.Placeable.{IsPlaceable};
-ghost use Rattle.par_place.specs.par_place_laws.Framed.{AreFramesPlaceable};
-ghost use Rattle.par_framing.specs.par_frame_laws.Framed.{IsPlacedWith, classes_with};
-ghost use Rattle.par_framing.specs.par_frame_laws.Framed.{entries_with};
+ghost use Rattle.par_place.specs.par_code_form.Placeable.{IsPlaceable};
+ghost use Rattle.par_place.specs.par_code_form.PlaceableFrames.{AreFramesPlaceable};
+ghost use Rattle.par_compile_laws.specs.Framed.{IsPlacedWith, classes_with};
+ghost use Rattle.par_compile_laws.specs.Framed.{entries_with};
 ghost use Rattle.par_framing.specs.Added.{AddsConstants, AreSized, spare_with};
 
 use crate::attribute::attributes_of;

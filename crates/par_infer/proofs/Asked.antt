@@ -7,9 +7,9 @@ use Rattle.std.proofs.lemmas.Bool.{eqb-true}
 use Rattle.std.proofs.lemmas.List.{get_or-set_same, get_or-set_other, length-set}
 use Rattle.par_policy.proofs.Ordered.{Contains-first, Contains-later}
 use Rattle.par_bits.specs.Sets.{Set, has, none}
-use Rattle.par_flow_laws.specs.Lattice.{numbers}
-use Rattle.par_flow_laws.specs.Ways.{Way}
-use Rattle.par_flow_laws.specs.Facts.{Facts}
+use Rattle.par_program_laws.specs.Lattice.{numbers}
+use Rattle.par_program_laws.specs.Ways.{Way}
+use Rattle.par_program_laws.specs.Facts.{Facts}
 use Rattle.par_check.specs.par_check_laws.Asked.{Condition, Open, Released, Worth, Joined}
 use Rattle.par_check.specs.par_check_laws.Asked.{Context}
 use Rattle.par_check.specs.par_check_laws.Asked.{Effect, Among}

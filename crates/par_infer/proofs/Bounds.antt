@@ -9,10 +9,10 @@ use Rattle.par_policy.proofs.Ordered.{Contains-later}
 use Rattle.par_bits.specs.Sets.{Set, none, union}
 use Rattle.par_typed.specs.declared.table.ClassInfo.{ClassInfo}
 use Rattle.par_typed.specs.declared.table.FieldInfo.{FieldInfo}
-use Rattle.par_flow_laws.specs.Lattice.{Seen, numbers, IsSeenBelow}
-use Rattle.par_flow_laws.specs.Ways.{Way}
-use Rattle.par_flow_laws.specs.Facts.{Facts}
-use Rattle.par_flow_laws.specs.Rules.{way, Holds}
+use Rattle.par_program_laws.specs.Lattice.{Seen, numbers, IsSeenBelow}
+use Rattle.par_program_laws.specs.Ways.{Way}
+use Rattle.par_program_laws.specs.Facts.{Facts}
+use Rattle.par_program_laws.specs.Rules.{way, Holds}
 use Rattle.par_check.specs.par_check_laws.Asked.{Condition, Open, Released, Worth, Joined}
 use Rattle.par_check.specs.par_check_laws.Asked.{Context}
 use Rattle.par_check.specs.par_check_laws.Asked.{Effect, Among}

@@ -6,9 +6,9 @@ use Rattle.par_policy.proofs.Ordered.{Contains-nil}
 use Rattle.par_typed.specs.declared.table.Table.{Table}
 use Rattle.par_typed.specs.Plain as typed
 use Rattle.par_typed.specs.Plain.{TExp, MayTExp, TExps, TSta, MayTSta, TStas, TCatches, Body, mark}
-use Rattle.par_flow_laws.specs.Declares.{Method, Thrown, declares}
-use Rattle.par_flow_laws.specs.Rules.{Entry}
-use Rattle.par_flow_laws.specs.Body.{args_past, args_tested}
+use Rattle.par_program_laws.specs.Declares.{Method, Thrown, declares}
+use Rattle.par_program_laws.specs.Rules.{Entry}
+use Rattle.par_program_laws.specs.Body.{args_past, args_tested}
 use Rattle.par_check.specs.par_check_laws.Asked.{Effect, Spot, Check}
 use Rattle.par_check.specs.par_check_laws.Checks.{exp_checks, args_checks, may_checks, sta_checks}
 use Rattle.par_check.specs.par_check_laws.Checks.{other_checks}
@@ -17,7 +17,7 @@ use Rattle.par_check.specs.par_check_laws.Checks.{returned, set}
 use Rattle.par_check.specs.par_check_laws.Checks.{locked, lock_written, throws_checks}
 use Rattle.par_check.specs.par_check_laws.Checks.{undeclared_checks}
 use Rattle.par_check.specs.par_check_laws.Checks.{method_checks, checks, others, points_past}
-use Rattle.par_table_laws.specs.Inferred.{inferred, AreOfFields}
+use Rattle.par_program_laws.specs.Inferred.{inferred, AreOfFields}
 use Rattle.par_infer.proofs.Choices.{first_or_later}
 
 module _ (table : Table) (own : Method) where

@@ -13,8 +13,8 @@ use Rattle.par_refusals.specs.declared.refusal.Refusal.{Refusal}
 use Rattle.par_refusals.specs.First.{broken, comes_before, when, first_of, IsAnswer}
 use Rattle.par_typed.specs.Plain.{Body}
 use Rattle.par_refusals.proofs.First.{first_of_append, first_of_none}
-use Rattle.par_flow_laws.specs.Lattice.{numbers}
-use Rattle.par_flow_laws.specs.Facts.{Facts}
+use Rattle.par_program_laws.specs.Lattice.{numbers}
+use Rattle.par_program_laws.specs.Facts.{Facts}
 use Rattle.par_infer.specs.par_check_laws.Asked.{Check}
 use Rattle.par_infer.specs.par_check_laws.Checks.{checks}
 use Rattle.par_check.specs.par_check_laws.Right.{AreRight, AreAllRight}

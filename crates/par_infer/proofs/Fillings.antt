@@ -10,10 +10,10 @@ use Rattle.par_typed.specs.declared.table.Table.{Table}
 use Rattle.par_typed.specs.declared.table.ClassInfo.{ClassInfo}
 use Rattle.par_typed.specs.declared.table.FieldInfo.{FieldInfo}
 use Rattle.par_typed.specs.Plain.{Body}
-use Rattle.par_flow_laws.specs.Lattice.{Seen, numbers, IsSeenBelow, joined}
-use Rattle.par_flow_laws.specs.Facts.{Facts}
-use Rattle.par_flow_laws.specs.Declares.{declares}
-use Rattle.par_flow_laws.specs.Closed.{IsClosed}
+use Rattle.par_program_laws.specs.Lattice.{Seen, numbers, IsSeenBelow, joined}
+use Rattle.par_program_laws.specs.Facts.{Facts}
+use Rattle.par_program_laws.specs.Declares.{declares}
+use Rattle.par_program_laws.specs.Closed.{IsClosed}
 use Rattle.par_pass_laws.proofs.Instances.{in_either}
 use Rattle.par_pass_laws.proofs.Along.{closed_along}
 use Rattle.par_check.specs.par_check_laws.Asked.{Check}
@@ -24,7 +24,7 @@ use Rattle.par_pass_laws.specs.Seens.{given_of, join_of, seen_as, plain}
 use Rattle.par_infer.specs.Seens.{IsPolicy}
 use Rattle.par_check.specs.par_check_laws.Keeps.{Keeps}
 use Rattle.par_infer.specs.Keeps.{limit, strict}
-use Rattle.par_table_laws.specs.Inferred.{inferred, inferred_among, inferred_in}
+use Rattle.par_program_laws.specs.Inferred.{inferred, inferred_among, inferred_in}
 use Rattle.par_infer.specs.Bounds.{bounds, replaced}
 use Rattle.par_infer.specs.Bounds.{bodies_above, births_above, all_above}
 use Rattle.par_infer.specs.Bounds.{is_at}

@@ -7,9 +7,9 @@ use Rattle.par_typed.specs.declared.table.Table.{Table}
 use Rattle.par_refusals.specs.declared.refusal.Refusal.{Refusal}
 use Rattle.par_refusals.specs.First.{broken, comes_before}
 use Rattle.par_typed.specs.Plain.{Body}
-use Rattle.par_flow_laws.specs.Lattice.{numbers}
-use Rattle.par_flow_laws.specs.Facts.{Facts}
-use Rattle.par_flow_laws.specs.Declares.{declares}
+use Rattle.par_program_laws.specs.Lattice.{numbers}
+use Rattle.par_program_laws.specs.Facts.{Facts}
+use Rattle.par_program_laws.specs.Declares.{declares}
 use Rattle.par_pass_laws.proofs.Along.{closed_along}
 use Rattle.par_check.specs.par_check_laws.Asked.{Check}
 use Rattle.par_check.specs.par_check_laws.Checks.{checks}
@@ -17,7 +17,7 @@ use Rattle.par_reached.specs.Reached.{AreLeastSets}
 use Rattle.par_pass_laws.specs.Seens.{given_of, seen_as, join_of}
 use Rattle.par_check.specs.par_check_laws.Keeps.{Keeps}
 use Rattle.par_infer.specs.Keeps.{strict}
-use Rattle.par_table_laws.specs.Inferred.{inferred}
+use Rattle.par_program_laws.specs.Inferred.{inferred}
 use Rattle.par_infer.specs.Bounds.{bounds, replaced}
 use Rattle.par_infer.specs.Filling.{Filling, with_filling, join_filling}
 use Rattle.par_check.specs.par_check_laws.Right.{AreRight}

@@ -1,7 +1,7 @@
 -- What sets of numbers stand for, whichever policies have the numbers.
 use Rattle.std.proofs.Common.{List, refl}
 use Rattle.par_bits.specs.Sets.{union}
-use Rattle.par_flow_laws.specs.Lattice.{Seen}
+use Rattle.par_program_laws.specs.Lattice.{Seen}
 use Rattle.par_pass_laws.proofs.Order.{union_l, union_r}
 use Rattle.std.proofs.lemmas.Bool.{and_from}
 use Rattle.par_pass_laws.proofs.Along.{StandsFor}

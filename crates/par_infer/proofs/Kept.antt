@@ -2,11 +2,11 @@
 use Rattle.std.proofs.Common.{◌≡◌, ℕ, ◌&&◌, Option, Some, None, List, [], ◌∷◌, refl, ap, subst}
 use Rattle.std.specs.Prelude.{map}
 use Rattle.par_bits.specs.Sets.{union}
-use Rattle.par_flow_laws.specs.Lattice.{Seen, numbers}
-use Rattle.par_flow_laws.specs.Ways as rules
-use Rattle.par_flow_laws.specs.Ways.{Flows, MayFlow}
-use Rattle.par_flow_laws.specs.Facts.{Facts}
-use Rattle.par_flow_laws.specs.Rules.{way, Holds}
+use Rattle.par_program_laws.specs.Lattice.{Seen, numbers}
+use Rattle.par_program_laws.specs.Ways as rules
+use Rattle.par_program_laws.specs.Ways.{Flows, MayFlow}
+use Rattle.par_program_laws.specs.Facts.{Facts}
+use Rattle.par_program_laws.specs.Rules.{way, Holds}
 use Rattle.par_pass_laws.specs.Exits.{Way}
 use Rattle.par_pass_laws.specs.Low as lower
 use Rattle.par_pass_laws.specs.Low.{IsLow, FlowsUnder}

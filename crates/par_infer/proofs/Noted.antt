@@ -6,7 +6,7 @@ use Rattle.std.proofs.lemmas.Bool.{eqb-true, and_from, or_left, or_right}
 use Rattle.par_bits.specs.Sets.{Set}
 use Rattle.par_typed.specs.declared.table.FieldInfo.{FieldInfo}
 use Rattle.par_typed.specs.declared.table.ClassInfo.{ClassInfo}
-use Rattle.par_table_laws.specs.Inferred.{inferred_among, inferred_in}
+use Rattle.par_program_laws.specs.Inferred.{inferred_among, inferred_in}
 use Rattle.par_asked.proofs.Left.{left_more, left_none}
 use Rattle.par_infer.proofs.Choices.{by_cases}
 

@@ -6,7 +6,7 @@ use Rattle.std.proofs.lemmas.Bool.{eqb-true, and_parts, and_from}
 use Rattle.par_policy.specs.declared.clauses.Clause.{Clause}
 use Rattle.par_bits.specs.Sets.{Set, IsWithin, size}
 use Rattle.par_bits.proofs.Sizes.{size_grows_by_member}
-use Rattle.par_flow_laws.specs.Lattice.{IsSeenBelow, joined, seen_by}
+use Rattle.par_program_laws.specs.Lattice.{IsSeenBelow, joined, seen_by}
 use Rattle.par_pass_laws.specs.Seens.{given_of, join_of, plain}
 use Rattle.par_infer.specs.Bounds.{any_below}
 use Rattle.par_infer.specs.Printed.{above, highest, Orders, HighestStandForAll}

@@ -6,10 +6,10 @@ use Rattle.std.specs.Prelude.{IsTrue, nat_eq, map, slice_get}
 use Rattle.std.proofs.lemmas.Bool.{eqb-true, and_parts, and_from, or_left, or_right}
 use Rattle.par_policy.specs.declared.clauses.Clause.{Clause}
 use Rattle.par_bits.specs.Sets.{Set, union}
-use Rattle.par_flow_laws.specs.Lattice.{Seen, numbers, IsSeenBelow, joined, seen_by}
-use Rattle.par_flow_laws.specs.Ways.{Way}
-use Rattle.par_flow_laws.specs.Facts.{Facts}
-use Rattle.par_flow_laws.specs.Rules.{way, Holds}
+use Rattle.par_program_laws.specs.Lattice.{Seen, numbers, IsSeenBelow, joined, seen_by}
+use Rattle.par_program_laws.specs.Ways.{Way}
+use Rattle.par_program_laws.specs.Facts.{Facts}
+use Rattle.par_program_laws.specs.Rules.{way, Holds}
 use Rattle.par_check.specs.par_check_laws.Asked.{Condition, Open, Released, Worth, Joined}
 use Rattle.par_check.specs.par_check_laws.Asked.{Context}
 use Rattle.par_check.specs.par_check_laws.Asked.{Effect, Among}

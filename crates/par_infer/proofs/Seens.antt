@@ -8,7 +8,7 @@ use Rattle.par_policy.specs.declared.clauses.Clause.{Clause}
 use Rattle.par_policy.specs.Sees.{sees}
 use Rattle.par_policy.proofs.Seen.{sees_more}
 use Rattle.par_bits.specs.Sets.{Set, IsWithin, none, adding}
-use Rattle.par_flow_laws.specs.Lattice.{Seen, IsSeenBelow, joined, seen_by}
+use Rattle.par_program_laws.specs.Lattice.{Seen, IsSeenBelow, joined, seen_by}
 use Rattle.std.proofs.lemmas.Bool.{and_from}
 use Rattle.par_pass_laws.proofs.Instances.{in_both_l, in_both_r}
 use Rattle.par_pass_laws.specs.Seens.{given_of, join_of, plain}

@@ -5,11 +5,11 @@ use Rattle.std.proofs.Math.Path.{fun_ext}
 use Rattle.std.specs.Prelude.{IsTrue, IfOk, Result, Ok, Err}
 use Rattle.par_bits.specs.Sets.{Set, has, union}
 use Rattle.par_typed.specs.declared.table.Table.{Table}
-use Rattle.par_flow_laws.specs.Lattice.{numbers, joined, IsSeenBelow}
-use Rattle.par_flow_laws.specs.Ways.{Way}
-use Rattle.par_flow_laws.specs.Facts.{Facts}
-use Rattle.par_flow_laws.specs.Rules.{Holds}
-use Rattle.par_table_laws.specs.Inferred.{inferred}
+use Rattle.par_program_laws.specs.Lattice.{numbers, joined, IsSeenBelow}
+use Rattle.par_program_laws.specs.Ways.{Way}
+use Rattle.par_program_laws.specs.Facts.{Facts}
+use Rattle.par_program_laws.specs.Rules.{Holds}
+use Rattle.par_program_laws.specs.Inferred.{inferred}
 use Rattle.par_check.specs.par_check_laws.Asked.{Condition, Open, Released, Worth, Joined}
 use Rattle.par_check.specs.par_check_laws.Asked.{Context}
 use Rattle.par_check.specs.par_check_laws.Asked.{Effect, Among}

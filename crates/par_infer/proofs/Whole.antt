@@ -8,12 +8,12 @@ use Rattle.par_typed.specs.declared.table.Table.{Table}
 use Rattle.par_typed.specs.declared.table.ClassInfo.{ClassInfo}
 use Rattle.par_typed.specs.declared.table.MethodInfo.{MethodInfo}
 use Rattle.par_typed.specs.Plain.{Body}
-use Rattle.par_flow_laws.specs.Lattice.{numbers}
-use Rattle.par_flow_laws.specs.Facts.{Facts}
-use Rattle.par_flow_laws.specs.Declares.{declares, method_of, methods_of}
-use Rattle.par_table_laws.specs.Declared.{IsWellDeclared}
-use Rattle.par_table_laws.specs.Inferred.{inferred}
-use Rattle.par_table_laws.specs.Policies.{ClassShares, MethodShares}
+use Rattle.par_program_laws.specs.Lattice.{numbers}
+use Rattle.par_program_laws.specs.Facts.{Facts}
+use Rattle.par_program_laws.specs.Declares.{declares, method_of, methods_of}
+use Rattle.par_program_laws.specs.WellDeclared.{IsWellDeclared}
+use Rattle.par_program_laws.specs.Inferred.{inferred}
+use Rattle.par_program_laws.specs.Policies.{ClassShares, MethodShares}
 use Rattle.par_reached.specs.Reached.{AreLeastSets}
 use Rattle.par_check.specs.par_check_laws.Right.{AreAllRight}
 use Rattle.par_infer.specs.Bounds.{bounds}

@@ -1,9 +1,9 @@
 -- Bounds that are collected.
 use Rattle.std.specs.Prelude.{◌≡◌, ℕ, ◌<◌, ◌||◌, List, Contains, IsTrue, length, map}
 use Rattle.par_bits.specs.Sets.{Set, none, adding, union}
-use Rattle.par_flow_laws.specs.Lattice.{numbers}
-use Rattle.par_flow_laws.specs.Facts.{Facts}
-use Rattle.par_flow_laws.specs.Rules.{way}
+use Rattle.par_program_laws.specs.Lattice.{numbers}
+use Rattle.par_program_laws.specs.Facts.{Facts}
+use Rattle.par_program_laws.specs.Rules.{way}
 use Rattle.par_check.specs.par_check_laws.Asked.{Condition, Open, Released, Worth, Joined}
 use Rattle.par_check.specs.par_check_laws.Asked.{Context}
 use Rattle.par_check.specs.par_check_laws.Asked.{Effect, Among}

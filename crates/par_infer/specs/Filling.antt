@@ -5,17 +5,17 @@ use Rattle.par_typed.specs.declared.table.Table.{Table}
 use Rattle.par_typed.specs.declared.table.ClassInfo.{ClassInfo}
 use Rattle.par_typed.specs.declared.table.FieldInfo.{FieldInfo}
 use Rattle.par_typed.specs.Plain.{Body}
-use Rattle.par_flow_laws.specs.Lattice.{Seen, IsSeenBelow, joined}
-use Rattle.par_flow_laws.specs.Facts.{Facts}
-use Rattle.par_flow_laws.specs.Declares.{declares}
-use Rattle.par_flow_laws.specs.Closed.{IsClosed}
+use Rattle.par_program_laws.specs.Lattice.{Seen, IsSeenBelow, joined}
+use Rattle.par_program_laws.specs.Facts.{Facts}
+use Rattle.par_program_laws.specs.Declares.{declares}
+use Rattle.par_program_laws.specs.Closed.{IsClosed}
 use Rattle.par_check.specs.par_check_laws.Asked.{Check}
 use Rattle.par_check.specs.par_check_laws.Checks.{checks}
 use Rattle.par_pass_laws.specs.Seens.{seen_as, given_of}
 use Rattle.par_infer.specs.Seens.{filled, IsPolicy}
 use Rattle.par_check.specs.par_check_laws.Keeps.{Keeps}
 use Rattle.par_infer.specs.Keeps.{strict}
-use Rattle.par_table_laws.specs.Inferred.{inferred}
+use Rattle.par_program_laws.specs.Inferred.{inferred}
 
 -- a policy for each number of an inferred field
 abbrev pub Filling : Type 0

@@ -5,10 +5,10 @@ use Rattle.par_typed.specs.declared.table.Table.{Table}
 use Rattle.par_refusals.specs.declared.refusal.Refusal.{Refusal}
 use Rattle.par_refusals.specs.First.{broken, comes_before}
 use Rattle.par_typed.specs.Plain.{Body}
-use Rattle.par_flow_laws.specs.Lattice.{numbers}
-use Rattle.par_flow_laws.specs.Facts.{Facts}
-use Rattle.par_flow_laws.specs.Declares.{declares}
-use Rattle.par_flow_laws.specs.Closed.{IsClosed}
+use Rattle.par_program_laws.specs.Lattice.{numbers}
+use Rattle.par_program_laws.specs.Facts.{Facts}
+use Rattle.par_program_laws.specs.Declares.{declares}
+use Rattle.par_program_laws.specs.Closed.{IsClosed}
 use Rattle.par_check.specs.par_check_laws.Asked.{Check}
 use Rattle.par_check.specs.par_check_laws.Checks.{checks}
 use Rattle.par_check.specs.par_check_laws.Right.{AreRight, AreAllRight}
@@ -16,7 +16,7 @@ use Rattle.par_reached.specs.Reached.{AreLeastSets}
 use Rattle.par_pass_laws.specs.Seens.{given_of, seen_as}
 use Rattle.par_check.specs.par_check_laws.Keeps.{Keeps}
 use Rattle.par_infer.specs.Keeps.{strict}
-use Rattle.par_table_laws.specs.Inferred.{inferred, AreOfFields}
+use Rattle.par_program_laws.specs.Inferred.{inferred, AreOfFields}
 use Rattle.par_infer.specs.Bounds.{bounds}
 use Rattle.par_infer.specs.Filling.{Filling, with_filling, IsAccepted}
 use Rattle.par_infer.specs.Laws.{AreAll, KeepsReplaced, MeetsBounds, is_bound}

@@ -7,9 +7,9 @@ use Rattle.par_refusals.specs.declared.refusal.Refusal.{Refusal}
 use Rattle.par_refusals.specs.First.{broken}
 use Rattle.par_typed.specs.Plain.{Body}
 use Rattle.par_typed.specs.Shown.{bodies}
-use Rattle.par_flow_laws.specs.Lattice.{numbers}
-use Rattle.par_flow_laws.specs.Facts.{Facts}
-use Rattle.par_table_laws.specs.Inferred.{inferred}
+use Rattle.par_program_laws.specs.Lattice.{numbers}
+use Rattle.par_program_laws.specs.Facts.{Facts}
+use Rattle.par_program_laws.specs.Inferred.{inferred}
 use Rattle.par_reached.specs.Reached.{AreLeastSets, set_at}
 use Rattle.par_infer.specs.par_check_laws.Asked.{Check}
 use Rattle.par_infer.specs.par_check_laws.Checks.{checks}

@@ -4,8 +4,8 @@ use Rattle.par_bits.specs.Sets.{Set}
 use Rattle.par_typed.specs.declared.table.Table.{Table}
 use Rattle.par_refusals.specs.declared.refusal.Refusal.{Refusal}
 use Rattle.par_typed.specs.Plain.{Body}
-use Rattle.par_flow_laws.specs.Lattice.{numbers}
-use Rattle.par_flow_laws.specs.Facts.{Facts}
+use Rattle.par_program_laws.specs.Lattice.{numbers}
+use Rattle.par_program_laws.specs.Facts.{Facts}
 use Rattle.par_infer.specs.par_check_laws.Checks.{checks}
 use Rattle.par_check.specs.Told.{AreBroken}
 use Rattle.par_infer.specs.Laws.{AreAll, KeepOthers, KeepsOther}

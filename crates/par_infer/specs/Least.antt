@@ -1,7 +1,7 @@
 -- What the collected bounds rest on.
 use Rattle.std.specs.Prelude.{ℕ, ◌<◌}
 use Rattle.par_typed.specs.declared.table.Table.{Table}
-use Rattle.par_flow_laws.specs.Declares.{declares}
+use Rattle.par_program_laws.specs.Declares.{declares}
 
 -- write effects are numbers of sets
 abbrev pub HaveFewEffects : Table → Type 0

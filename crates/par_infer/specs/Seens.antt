@@ -4,7 +4,7 @@ use Rattle.par_policy.specs.declared.clauses.Clause.{Clause}
 use Rattle.par_policy.specs.Numbers.{within}
 use Rattle.par_policy.specs.Sees.{sees}
 use Rattle.par_bits.specs.Sets.{Set}
-use Rattle.par_flow_laws.specs.Lattice.{Seen}
+use Rattle.par_program_laws.specs.Lattice.{Seen}
 
 -- who sees it with some locks sees it with more
 abbrev pub IsPolicy : Seen → Type 0

@@ -2,7 +2,7 @@
 
 ghost use Rattle.std.specs.Prelude.{◌<◌, ℕ, IsTrue, length};
 ghost use Rattle.std.specs.List.{AllByRecursion};
-ghost use Rattle.par_table_laws.specs.Inferred.{inferred_among, inferred_in};
+ghost use Rattle.par_program_laws.specs.Inferred.{inferred_among, inferred_in};
 ghost use Rattle.par_infer.specs.Bounds.{born_above, births_above};
 ghost use Rattle.par_infer.specs.Collected.{Gains};
 ghost use Rattle.par_infer.specs.Births.{born_once, every};

@@ -2,8 +2,8 @@
 
 ghost use Rattle.std.specs.Prelude.{◌≡◌, ◌<◌, ◌≤◌, ◌++◌, ℕ, IsTrue, OnOk, IfOk, length};
 ghost use Rattle.std.specs.List.{AllByRecursion};
-ghost use Rattle.par_table_laws.specs.Inferred.{inferred_among, inferred_in};
-ghost use Rattle.par_table_laws.specs.Declared.{HasFewFields};
+ghost use Rattle.par_program_laws.specs.Inferred.{inferred_among, inferred_in};
+ghost use Rattle.par_program_laws.specs.WellDeclared.{HasFewFields};
 ghost use Rattle.par_infer.specs.Filled.{filled_field, filled_among, filled_in};
 
 use par_atoms::Atoms;

@@ -3,7 +3,7 @@
 ghost use Rattle.std.specs.Prelude.{◌≡◌, ◌<◌, ◌≤◌, ℕ, false, IsTrue, OnOk, length, map};
 ghost use Rattle.std.specs.List.{AllByRecursion};
 ghost use Rattle.par_bits.specs.Sets.{has};
-ghost use Rattle.par_table_laws.specs.Inferred.{inferred};
+ghost use Rattle.par_program_laws.specs.Inferred.{inferred};
 ghost use Rattle.par_reached.specs.Reached.{AreLeastSets, set_at};
 ghost use Rattle.par_typed.specs.Shown as shown;
 ghost use Rattle.par_infer.specs.Bounds.{bounds};

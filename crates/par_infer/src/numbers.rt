@@ -2,7 +2,7 @@
 
 ghost use Rattle.std.specs.Prelude.{◌≡◌, ◌<◌, ℕ, ◌||◌, IsTrue};
 ghost use Rattle.par_bits.specs.Sets.{has};
-ghost use Rattle.par_table_laws.specs.Inferred.{inferred, inferred_among, inferred_in};
+ghost use Rattle.par_program_laws.specs.Inferred.{inferred, inferred_among, inferred_in};
 
 use par_atoms::Atoms;
 use par_typed::table::{ClassInfo, FieldInfo, Table};

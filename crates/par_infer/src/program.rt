@@ -2,9 +2,9 @@
 
 ghost use Rattle.std.specs.Prelude.{◌≤◌, IfOk, IfErr, length};
 ghost use Rattle.std.specs.List.{AllByRecursion};
-ghost use Rattle.par_table_laws.specs.Declared.{HasFewFields, IsWellDeclared};
+ghost use Rattle.par_program_laws.specs.WellDeclared.{HasFewFields, IsWellDeclared};
 ghost use Rattle.par_typed.specs.Shown as shown;
-ghost use Rattle.par_flow_laws.specs.Orderly.{IsOrderlyBody};
+ghost use Rattle.par_program_laws.specs.Orderly.{IsOrderlyBody};
 ghost use Rattle.par_infer.specs.Inferred.{IsInferred, IsRefused};
 
 use crate::error::InferError;

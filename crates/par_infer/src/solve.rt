@@ -3,12 +3,12 @@
 ghost use Rattle.std.specs.Prelude.{◌≡◌, ◌≤◌, ℕ, false, IfOk, IfErr, OnOk, length, map};
 ghost use Rattle.std.specs.List.{AllByRecursion};
 ghost use Rattle.par_bits.specs.Sets.{has};
-ghost use Rattle.par_table_laws.specs.Declared.{HasFewFields, IsWellDeclared};
-ghost use Rattle.par_table_laws.specs.Inferred.{inferred};
+ghost use Rattle.par_program_laws.specs.WellDeclared.{HasFewFields, IsWellDeclared};
+ghost use Rattle.par_program_laws.specs.Inferred.{inferred};
 ghost use Rattle.par_reached.specs.Reached.{AreLeastSets, set_at};
 ghost use Rattle.par_typed.specs.Shown as shown;
 ghost use Rattle.par_check.specs.par_check_laws.Right.{AreAllRight};
-ghost use Rattle.par_flow_laws.specs.Orderly.{IsOrderlyBody};
+ghost use Rattle.par_program_laws.specs.Orderly.{IsOrderlyBody};
 ghost use Rattle.par_infer.specs.Bounds.{bounds};
 ghost use Rattle.par_infer.specs.Inferred.{IsInferred, IsRefused};
 ghost use Rattle.par_infer.specs.Judged.{IsJudged};

@@ -3,7 +3,7 @@
 ghost use Rattle.std.specs.Prelude.{◌≡◌, ◌<◌, ◌≤◌, ℕ, IsTrue, IfOk, OnOk, length, map};
 ghost use Rattle.std.specs.Prelude.{List as Items};
 ghost use Rattle.par_bits.specs.Sets.{has};
-ghost use Rattle.par_table_laws.specs.Inferred.{inferred};
+ghost use Rattle.par_program_laws.specs.Inferred.{inferred};
 ghost use Rattle.par_reached.specs.Reached.{set_at};
 ghost use Rattle.par_refusals.specs.declared.refusal.Refusal.{Refusal as Told};
 ghost use Rattle.par_refusals.specs.First.{first_of};

@@ -4,7 +4,7 @@ use Rattle.std.proofs.Common.{ap}
 use Rattle.std.proofs.Common.{◌∙◌}
 use Rattle.std.specs.Str.{bytes_eq}
 use Rattle.par_base.specs.Names.{is_name}
-use Rattle.par_descriptor_laws.specs.par_single.Descriptors.{Text}
+use Rattle.par_compile_laws.specs.par_single.Descriptors.{Text}
 use Rattle.par_loader.specs.par_link.entry.Builtin.{Builtin}
 use Rattle.par_loader.specs.par_link.entry.Builtin.TheVariants.{Object, Exception}
 use Rattle.par_loader.specs.par_link.entry.Builtin.TheVariants.{ArithmeticException}

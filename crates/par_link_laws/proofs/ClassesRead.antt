@@ -7,16 +7,16 @@ use Rattle.par_pool.specs.declared.constant.Constant.TheVariants as constant
 use Rattle.par_pool.specs.Entries.{entry_at, IsClassAt}
 use Rattle.par_class.specs.declared.file.Catch.{Catch}
 use Rattle.par_class.specs.declared.file.ClassFile.{ClassFile}
-use Rattle.par_descriptor_laws.specs.par_single.Descriptors.{Text}
-use Rattle.par_descriptor_laws.specs.par_single.Members.{text_at}
-use Rattle.par_descriptor_laws.specs.par_code_form.declared.item.Item.{Item}
-use Rattle.par_descriptor_laws.specs.par_code_form.declared.item.Item.TheVariants.{Label, Op, Const}
-use Rattle.par_descriptor_laws.specs.par_code_form.declared.item.Item.TheVariants.{Jump}
-use Rattle.par_descriptor_laws.specs.par_code_form.declared.item.Item.TheVariants.{Member}
-use Rattle.par_descriptor_laws.specs.par_code_form.declared.item.Item.TheVariants.{ClassOp, LockOp}
-use Rattle.par_descriptor_laws.specs.par_code_form.declared.labelled.Handler.{Handler}
-use Rattle.par_compile_laws.specs.par_place_laws.Named.{full_name, Names}
-use Rattle.par_compile_laws.specs.par_place_laws.Placed.{IsCatch, offset_of}
+use Rattle.par_compile_laws.specs.par_single.Descriptors.{Text}
+use Rattle.par_compile_laws.specs.par_single.Members.{text_at}
+use Rattle.par_compile_laws.specs.par_code_form.declared.item.Item.{Item}
+use Rattle.par_compile_laws.specs.par_code_form.declared.item.Item.TheVariants.{Label, Op, Const}
+use Rattle.par_compile_laws.specs.par_code_form.declared.item.Item.TheVariants.{Jump}
+use Rattle.par_compile_laws.specs.par_code_form.declared.item.Item.TheVariants.{Member}
+use Rattle.par_compile_laws.specs.par_code_form.declared.item.Item.TheVariants.{ClassOp, LockOp}
+use Rattle.par_compile_laws.specs.par_code_form.declared.labelled.Handler.{Handler}
+use Rattle.par_compile_laws.specs.par_code_form.PoolNames.{full_name, Names}
+use Rattle.par_compile_laws.specs.par_code_form.Placed.{IsCatch, offset_of}
 use Rattle.par_loader.proofs.par_link.Passing.{any-at}
 use Rattle.par_loader.specs.Mentions.{is_unread, names_unread}
 use Rattle.par_link_laws.specs.Parts.{IsClosedIn}

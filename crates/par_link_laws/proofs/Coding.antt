@@ -21,30 +21,30 @@ use Rattle.par_instr.specs.declared.instr.Instr.TheVariants.{IloadShort, Iload, 
 use Rattle.par_instr.specs.declared.instr.Instr.TheVariants.{IstoreShort, Istore, AstoreShort}
 use Rattle.par_instr.specs.declared.instr.Instr.TheVariants.{Astore, Ireturn, Areturn}
 use Rattle.par_instr.specs.declared.instr.Instr.TheVariants as instr
-use Rattle.par_descriptor_laws.specs.par_code_form.declared.item.Item.{Item}
-use Rattle.par_descriptor_laws.specs.par_code_form.declared.item.Item.TheVariants.{Label, Op, Jump}
-use Rattle.par_descriptor_laws.specs.par_code_form.declared.item.Item.TheVariants.{Member}
-use Rattle.par_descriptor_laws.specs.par_code_form.declared.labelled.Handler.{Handler}
-use Rattle.par_descriptor_laws.specs.par_code_form.Code.{Words, is_number, is_void, load, store}
-use Rattle.par_descriptor_laws.specs.par_code_form.Code.{Shape}
-use Rattle.par_descriptor_laws.specs.par_code_form.Code.{Calculates}
-use Rattle.par_descriptor_laws.specs.par_code_form.Code.{Compares, Sames, Decides, shape_of}
-use Rattle.par_descriptor_laws.specs.par_code_form.Code.{shape_labels}
-use Rattle.par_descriptor_laws.specs.par_code_form.Code.{shape_code}
-use Rattle.par_descriptor_laws.specs.par_code_form.Code.{between, expr_labels, may_labels, invoke}
-use Rattle.par_descriptor_laws.specs.par_code_form.Code.{made}
-use Rattle.par_descriptor_laws.specs.par_code_form.Code.{expr_code, may_code, args_code, labels}
-use Rattle.par_descriptor_laws.specs.par_code_form.Code.{Loop, give_back, dropped, goes_on}
-use Rattle.par_descriptor_laws.specs.par_code_form.Code.{loop_test, code, else_code, all_code}
-use Rattle.par_descriptor_laws.specs.par_code_form.Code.{catch_code}
-use Rattle.par_descriptor_laws.specs.par_code_form.Code.{handlers}
-use Rattle.par_descriptor_laws.specs.par_code_form.Code.{else_handlers, all_handlers}
-use Rattle.par_descriptor_laws.specs.par_code_form.Code.{catch_handlers}
-use Rattle.par_descriptor_laws.specs.par_code_form.Code.{ending, no_loop}
-use Rattle.par_descriptor_laws.specs.par_code_form.Code.{body_code, body_handlers}
-use Rattle.par_descriptor_laws.specs.par_code_form.Opcodes.{IFEQ, PUTSTATIC, PUTFIELD}
-use Rattle.par_descriptor_laws.specs.par_code_form.Named.{of_class, of_field, of_channel, of_method}
-use Rattle.par_descriptor_laws.specs.par_code_form.Named.{descriptor, method_descriptor, words_of}
+use Rattle.par_compile_laws.specs.par_code_form.declared.item.Item.{Item}
+use Rattle.par_compile_laws.specs.par_code_form.declared.item.Item.TheVariants.{Label, Op, Jump}
+use Rattle.par_compile_laws.specs.par_code_form.declared.item.Item.TheVariants.{Member}
+use Rattle.par_compile_laws.specs.par_code_form.declared.labelled.Handler.{Handler}
+use Rattle.par_compile_laws.specs.par_code_form.Code.{Words, is_number, is_void, load, store}
+use Rattle.par_compile_laws.specs.par_code_form.Code.{Shape}
+use Rattle.par_compile_laws.specs.par_code_form.Code.{Calculates}
+use Rattle.par_compile_laws.specs.par_code_form.Code.{Compares, Sames, Decides, shape_of}
+use Rattle.par_compile_laws.specs.par_code_form.Code.{shape_labels}
+use Rattle.par_compile_laws.specs.par_code_form.Code.{shape_code}
+use Rattle.par_compile_laws.specs.par_code_form.Code.{between, expr_labels, may_labels, invoke}
+use Rattle.par_compile_laws.specs.par_code_form.Code.{made}
+use Rattle.par_compile_laws.specs.par_code_form.Code.{expr_code, may_code, args_code, labels}
+use Rattle.par_compile_laws.specs.par_code_form.Code.{Loop, give_back, dropped, goes_on}
+use Rattle.par_compile_laws.specs.par_code_form.Code.{loop_test, code, else_code, all_code}
+use Rattle.par_compile_laws.specs.par_code_form.Code.{catch_code}
+use Rattle.par_compile_laws.specs.par_code_form.Code.{handlers}
+use Rattle.par_compile_laws.specs.par_code_form.Code.{else_handlers, all_handlers}
+use Rattle.par_compile_laws.specs.par_code_form.Code.{catch_handlers}
+use Rattle.par_compile_laws.specs.par_code_form.Code.{ending, no_loop}
+use Rattle.par_compile_laws.specs.par_code_form.Code.{body_code, body_handlers}
+use Rattle.par_compile_laws.specs.par_code_form.Opcodes.{IFEQ, PUTSTATIC, PUTFIELD}
+use Rattle.par_compile_laws.specs.par_code_form.Named.{of_class, of_field, of_channel, of_method}
+use Rattle.par_compile_laws.specs.par_code_form.Named.{descriptor, method_descriptor, words_of}
 use Rattle.par_link_laws.specs.Bodies.{IsField, IsChannel, IsMethod, ExpLinks, MayExpLinks}
 use Rattle.par_link_laws.specs.Bodies.{ExpsLink, StaLinks, ElseLinks, StasLink, CatchesLink}
 use Rattle.par_link_laws.specs.Linkable.{IsClassWord, IsFieldWord, IsCalleeWord, channelled}

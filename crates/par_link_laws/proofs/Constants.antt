@@ -12,16 +12,16 @@ use Rattle.par_pool.specs.declared.constant.Constant.TheVariants as constant
 use Rattle.par_pool.specs.Entries.{IsClassAt, IsNameTypeAt}
 use Rattle.par_pool.specs.Growth.{IsClassPart, IsNameTypePart, IsMemberPart}
 use Rattle.par_class.specs.declared.file.ClassFile.{ClassFile}
-use Rattle.par_descriptor_laws.specs.par_single.Descriptors.{Text}
-use Rattle.par_descriptor_laws.specs.par_single.Members as single
-use Rattle.par_descriptor_laws.specs.par_single.Members.{text_at, member_at}
-use Rattle.par_descriptor_laws.specs.par_code_form.declared.item.Item.{Item}
-use Rattle.par_descriptor_laws.specs.par_code_form.declared.item.Item.TheVariants as item
-use Rattle.par_descriptor_laws.specs.par_code_form.declared.labelled.Handler.{Handler}
-use Rattle.par_descriptor_laws.specs.par_code_form.declared.labelled.Labelled.{Labelled}
-use Rattle.par_descriptor_laws.specs.par_code_form.Opcodes.{INVOKEVIRTUAL}
-use Rattle.par_compile_laws.specs.par_place_laws.Named.{full_name, IsPartOf}
-use Rattle.par_compile_laws.specs.par_place_laws.Named.{IsConstantOf}
+use Rattle.par_compile_laws.specs.par_single.Descriptors.{Text}
+use Rattle.par_compile_laws.specs.par_single.Members as single
+use Rattle.par_compile_laws.specs.par_single.Members.{text_at, member_at}
+use Rattle.par_compile_laws.specs.par_code_form.declared.item.Item.{Item}
+use Rattle.par_compile_laws.specs.par_code_form.declared.item.Item.TheVariants as item
+use Rattle.par_compile_laws.specs.par_code_form.declared.labelled.Handler.{Handler}
+use Rattle.par_compile_laws.specs.par_code_form.declared.labelled.Labelled.{Labelled}
+use Rattle.par_compile_laws.specs.par_code_form.Opcodes.{INVOKEVIRTUAL}
+use Rattle.par_compile_laws.specs.par_code_form.PoolNames.{full_name, IsPartOf}
+use Rattle.par_compile_laws.specs.par_code_form.PoolNames.{IsConstantOf}
 use Rattle.par_loader.specs.par_link.Builtins.{builtin_field, builtin_method}
 use Rattle.par_loader.specs.par_link.Named.{fields_of, methods_of}
 use Rattle.par_loader.specs.Mentions.{is_unread}

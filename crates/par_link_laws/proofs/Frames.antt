@@ -16,24 +16,24 @@ use Rattle.par_typed.specs.Plain.{Close, SetLocal, SetStatic, SetField, Eval, Wh
 use Rattle.par_typed.specs.Plain.{MayTSta, NoElse, Otherwise, TStas, End, Then, TCatches, NoCatch}
 use Rattle.par_typed.specs.Plain.{Catch}
 use Rattle.par_completes.specs.Typed.{completes, is_true}
-use Rattle.par_descriptor_laws.specs.par_code_form.declared.labelled.LabelFrame.{LabelFrame}
-use Rattle.par_descriptor_laws.specs.par_code_form.Again.{goes_again}
-use Rattle.par_descriptor_laws.specs.par_code_form.Code.{Words, Shape, Calculates, Compares, Sames}
-use Rattle.par_descriptor_laws.specs.par_code_form.Code.{Decides, shape_of}
-use Rattle.par_descriptor_laws.specs.par_code_form.Code.{shape_labels, expr_labels, may_labels}
-use Rattle.par_descriptor_laws.specs.par_code_form.Code.{labels}
-use Rattle.par_descriptor_laws.specs.par_code_form.Frames.{Types, declared_type, scope_behind}
-use Rattle.par_descriptor_laws.specs.par_code_form.Frames.{with_operand}
-use Rattle.par_descriptor_laws.specs.par_code_form.Frames.{with_receiver, below, slot, frame}
-use Rattle.par_descriptor_laws.specs.par_code_form.Frames.{frame_if}
-use Rattle.par_descriptor_laws.specs.par_code_form.Frames.{test_frames}
-use Rattle.par_descriptor_laws.specs.par_code_form.Frames.{shape_frames, expr_frames, may_frames}
-use Rattle.par_descriptor_laws.specs.par_code_form.Frames.{args_frames}
-use Rattle.par_descriptor_laws.specs.par_code_form.Frames.{loop_frames, frames, else_frames}
-use Rattle.par_descriptor_laws.specs.par_code_form.Frames.{all_frames}
-use Rattle.par_descriptor_laws.specs.par_code_form.Frames.{catch_frames}
-use Rattle.par_descriptor_laws.specs.par_code_form.Method.{set_by_call, first_scope, labelled}
-use Rattle.par_descriptor_laws.specs.par_code_form.Named.{words_of}
+use Rattle.par_compile_laws.specs.par_code_form.declared.labelled.LabelFrame.{LabelFrame}
+use Rattle.par_compile_laws.specs.par_code_form.Again.{goes_again}
+use Rattle.par_compile_laws.specs.par_code_form.Code.{Words, Shape, Calculates, Compares, Sames}
+use Rattle.par_compile_laws.specs.par_code_form.Code.{Decides, shape_of}
+use Rattle.par_compile_laws.specs.par_code_form.Code.{shape_labels, expr_labels, may_labels}
+use Rattle.par_compile_laws.specs.par_code_form.Code.{labels}
+use Rattle.par_compile_laws.specs.par_code_form.Frames.{Types, declared_type, scope_behind}
+use Rattle.par_compile_laws.specs.par_code_form.Frames.{with_operand}
+use Rattle.par_compile_laws.specs.par_code_form.Frames.{with_receiver, below, slot, frame}
+use Rattle.par_compile_laws.specs.par_code_form.Frames.{frame_if}
+use Rattle.par_compile_laws.specs.par_code_form.Frames.{test_frames}
+use Rattle.par_compile_laws.specs.par_code_form.Frames.{shape_frames, expr_frames, may_frames}
+use Rattle.par_compile_laws.specs.par_code_form.Frames.{args_frames}
+use Rattle.par_compile_laws.specs.par_code_form.Frames.{loop_frames, frames, else_frames}
+use Rattle.par_compile_laws.specs.par_code_form.Frames.{all_frames}
+use Rattle.par_compile_laws.specs.par_code_form.Frames.{catch_frames}
+use Rattle.par_compile_laws.specs.par_code_form.Method.{set_by_call, first_scope, labelled}
+use Rattle.par_compile_laws.specs.par_code_form.Named.{words_of}
 use Rattle.par_compile_laws.specs.Constants.{slot_class, frame_classes}
 use Rattle.par_link_laws.specs.Bodies.{IsTypeIn, ExpLinks, MayExpLinks, ExpsLink}
 use Rattle.par_link_laws.specs.Bodies.{StaLinks, ElseLinks, StasLink, CatchesLink, BodyLinks}

@@ -15,24 +15,24 @@ use Rattle.par_typed.specs.declared.table.FieldInfo.{FieldInfo}
 use Rattle.par_typed.specs.declared.table.MethodInfo.{MethodInfo}
 use Rattle.par_typed.specs.declared.table.Table.{Table}
 use Rattle.par_typed.specs.Plain.{TSta, Body}
-use Rattle.par_table_laws.specs.Names.{HasOwnNames}
+use Rattle.par_program_laws.specs.TableNames.{HasOwnNames}
 use Rattle.par_typed.specs.Members.{IsClass, fields_in, channels_in, methods_in}
 use Rattle.par_base.specs.Names.{IsName}
 use Rattle.par_typed.specs.declared.ty.Ty.{Ty}
 use Rattle.par_typed.specs.declared.ty.Ty.TheVariants as ty
 use Rattle.par_class.specs.declared.file.ClassFile.{ClassFile}
-use Rattle.par_descriptor_laws.specs.par_single.Descriptors.{Text}
-use Rattle.par_descriptor_laws.specs.par_single.Members as single
-use Rattle.par_descriptor_laws.specs.par_single.Members.{own_name}
+use Rattle.par_compile_laws.specs.par_single.Descriptors.{Text}
+use Rattle.par_compile_laws.specs.par_single.Members as single
+use Rattle.par_compile_laws.specs.par_single.Members.{own_name}
 use Rattle.par_compile_laws.specs.par_run_laws.Names.{body_of}
-use Rattle.par_descriptor_laws.specs.par_code_form.declared.item.Item.{Item}
-use Rattle.par_descriptor_laws.specs.par_code_form.declared.item.Item.TheVariants as item
-use Rattle.par_descriptor_laws.specs.par_code_form.declared.labelled.Labelled.{Labelled}
-use Rattle.par_descriptor_laws.specs.par_code_form.Method.{labelled}
-use Rattle.par_descriptor_laws.specs.par_code_form.Named.{class_word, descriptor, method_descriptor}
-use Rattle.par_descriptor_laws.specs.par_code_form.Named.{words_of}
-use Rattle.par_descriptor_laws.specs.par_code_form.Opcodes.{INVOKEVIRTUAL}
-use Rattle.par_compile_laws.specs.par_place_laws.Named.{full_name, LOCKS, LOCK_TYPE, lock_field}
+use Rattle.par_compile_laws.specs.par_code_form.declared.item.Item.{Item}
+use Rattle.par_compile_laws.specs.par_code_form.declared.item.Item.TheVariants as item
+use Rattle.par_compile_laws.specs.par_code_form.declared.labelled.Labelled.{Labelled}
+use Rattle.par_compile_laws.specs.par_code_form.Method.{labelled}
+use Rattle.par_compile_laws.specs.par_code_form.Named.{class_word, descriptor, method_descriptor}
+use Rattle.par_compile_laws.specs.par_code_form.Named.{words_of}
+use Rattle.par_compile_laws.specs.par_code_form.Opcodes.{INVOKEVIRTUAL}
+use Rattle.par_compile_laws.specs.par_code_form.PoolNames.{full_name, LOCKS, LOCK_TYPE, lock_field}
 use Rattle.par_loader.specs.par_link.entry.Builtin.{Builtin}
 use Rattle.par_loader.specs.par_link.entry.Builtin.TheVariants.{Object, Exception}
 use Rattle.par_loader.specs.par_link.entry.Builtin.TheVariants.{ArithmeticException}

@@ -17,4 +17,8 @@ pub mod Whole
 pub mod Coding
 pub mod Frames
 pub mod ClassesRead
+pub mod Bodies
+pub mod Channels
+pub mod Tables
+pub mod WellTyped
 pub use Rattle.par_loader.proofs.par_link as par_link

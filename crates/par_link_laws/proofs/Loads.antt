@@ -14,10 +14,10 @@ use Rattle.par_pool.specs.declared.constant.Constant.{Constant}
 use Rattle.par_pool.specs.declared.constant.Constant.TheVariants as constant
 use Rattle.par_class.specs.declared.file.ClassFile.{ClassFile}
 use Rattle.par_class.proofs.Files.{file_only}
-use Rattle.par_descriptor_laws.specs.par_single.Descriptors.{Text}
-use Rattle.par_descriptor_laws.specs.par_single.Members.{own_name, own_names, class_name_of}
-use Rattle.par_descriptor_laws.specs.par_single.Members.{text_at}
-use Rattle.par_descriptor_laws.proofs.par_single.Found.{FoundAt, found_at}
+use Rattle.par_compile_laws.specs.par_single.Descriptors.{Text}
+use Rattle.par_compile_laws.specs.par_single.Members.{own_name, own_names, class_name_of}
+use Rattle.par_compile_laws.specs.par_single.Members.{text_at}
+use Rattle.par_compile_laws.proofs.par_single.Found.{FoundAt, found_at}
 use Rattle.par_loader.specs.par_link.Builtins.{builtin}
 use Rattle.par_loader.proofs.par_link.Faultless.{or-none, map-none}
 use Rattle.par_loader.specs.Reads.{Classes}

@@ -6,7 +6,7 @@ use Rattle.std.specs.Fmt.{digits}
 use Rattle.par_loader.specs.par_link.entry.Builtin.TheVariants.{Locks}
 use Rattle.par_loader.specs.par_link.Builtins.{lock_number, builtin_field, lock_or_nothing}
 use Rattle.par_loader.specs.par_link.Rules.{is_nothing}
-use Rattle.par_compile_laws.specs.par_place_laws.Named.{LOCKS, LOCK_TYPE, lock_field}
+use Rattle.par_compile_laws.specs.par_code_form.PoolNames.{LOCKS, LOCK_TYPE, lock_field}
 
 -- whether the field of a lock is one that there is
 abbrev is_numbered : Option ℕ → Bool

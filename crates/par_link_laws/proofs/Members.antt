@@ -17,25 +17,25 @@ use Rattle.par_typed.specs.declared.table.MethodInfo.{MethodInfo}
 use Rattle.par_typed.specs.declared.table.ParamInfo.{ParamInfo}
 use Rattle.par_typed.specs.declared.table.Table.{Table}
 use Rattle.par_typed.specs.Plain.{Body}
-use Rattle.par_table_laws.specs.Names.{HasOwnNames}
+use Rattle.par_program_laws.specs.TableNames.{HasOwnNames}
 use Rattle.par_pool.specs.declared.constant.Constant.{Constant}
 use Rattle.par_class.specs.declared.file.ClassFile.{ClassFile}
 use Rattle.par_class.specs.declared.file.FieldFile.{FieldFile}
 use Rattle.par_class.specs.declared.file.MethodFile.{MethodFile}
 use Rattle.par_class.specs.Spelling.{is_native}
-use Rattle.par_descriptor_laws.specs.par_single.Descriptors.{Text, kind_at, kinds_in, field_kind}
-use Rattle.par_descriptor_laws.specs.par_single.Descriptors.{method_signature}
-use Rattle.par_descriptor_laws.specs.par_single.Members.{text_at, is_static}
-use Rattle.par_descriptor_laws.specs.par_single.Members as single
-use Rattle.par_descriptor_laws.specs.par_single.Described.{differ, field_named, method_named}
-use Rattle.par_descriptor_laws.specs.par_single.Described.{is_field_right}
-use Rattle.par_descriptor_laws.specs.par_single.Described.{is_of_channel, is_channel_right}
-use Rattle.par_descriptor_laws.specs.par_single.Described.{is_method_right}
+use Rattle.par_compile_laws.specs.par_single.Descriptors.{Text, kind_at, kinds_in, field_kind}
+use Rattle.par_compile_laws.specs.par_single.Descriptors.{method_signature}
+use Rattle.par_compile_laws.specs.par_single.Members.{text_at, is_static}
+use Rattle.par_compile_laws.specs.par_single.Members as single
+use Rattle.par_compile_laws.specs.par_single.Described.{differ, field_named, method_named}
+use Rattle.par_compile_laws.specs.par_single.Described.{is_field_right}
+use Rattle.par_compile_laws.specs.par_single.Described.{is_of_channel, is_channel_right}
+use Rattle.par_compile_laws.specs.par_single.Described.{is_method_right}
 use Rattle.par_compile_laws.specs.par_run_laws.Names.{body_of}
-use Rattle.par_descriptor_laws.specs.par_code_form.Named.{class_word, descriptor, method_descriptor}
-use Rattle.par_descriptor_laws.specs.Laws.{HasValueTypes}
-use Rattle.par_descriptor_laws.specs.Laws as said
-use Rattle.par_descriptor_laws.proofs.Described.{fields_are_described, methods_are_described}
+use Rattle.par_compile_laws.specs.par_code_form.Named.{class_word, descriptor, method_descriptor}
+use Rattle.par_compile_laws.specs.DescriptorLaws.{HasValueTypes}
+use Rattle.par_compile_laws.specs.DescriptorLaws as said
+use Rattle.par_compile_laws.proofs.Described.{fields_are_described, methods_are_described}
 use Rattle.par_loader.specs.par_link.Firsts.{first_repeated}
 use Rattle.par_loader.specs.par_link.Named.{is_same, fields_of, methods_of}
 use Rattle.par_loader.specs.par_link.Rules.{repeated_field, repeated_method, wrong_field}

@@ -8,17 +8,17 @@ use Rattle.std.specs.Str.{bytes_eq}
 use Rattle.par_base.specs.Names.{is_name}
 use Rattle.par_base.proofs.NameTests.{IsName-is_name}
 use Rattle.par_index.proofs.Places.{position-is_some}
-use Rattle.par_table_laws.proofs.Names.{names_stand_once}
+use Rattle.par_program_laws.proofs.TableNames.{names_stand_once}
 use Rattle.par_pool.specs.declared.constant.Constant.{Constant}
 use Rattle.par_pool.specs.declared.constant.Constant.TheVariants as constant
 use Rattle.par_pool.specs.Entries.{entry_at}
 use Rattle.par_class.specs.declared.file.ClassFile.{ClassFile}
-use Rattle.par_descriptor_laws.specs.par_single.Descriptors.{Text}
-use Rattle.par_descriptor_laws.specs.par_single.Members.{Member, text_at, own_name, own_names}
-use Rattle.par_descriptor_laws.specs.par_single.Members.{member_at}
-use Rattle.par_descriptor_laws.specs.par_single.Members.{class_name_of}
-use Rattle.par_descriptor_laws.specs.par_single.Members.{class_name_at, member_of}
-use Rattle.par_descriptor_laws.proofs.par_single.Found.{found_at}
+use Rattle.par_compile_laws.specs.par_single.Descriptors.{Text}
+use Rattle.par_compile_laws.specs.par_single.Members.{Member, text_at, own_name, own_names}
+use Rattle.par_compile_laws.specs.par_single.Members.{member_at}
+use Rattle.par_compile_laws.specs.par_single.Members.{class_name_of}
+use Rattle.par_compile_laws.specs.par_single.Members.{class_name_at, member_of}
+use Rattle.par_compile_laws.proofs.par_single.Found.{found_at}
 use Rattle.par_loader.specs.par_link.entry.Builtin.{Builtin}
 use Rattle.par_loader.specs.par_link.entry.Declared.{Declared}
 use Rattle.par_loader.specs.par_link.entry.Named.{Named}

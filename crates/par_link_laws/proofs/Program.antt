@@ -11,10 +11,10 @@ use Rattle.par_typed.specs.declared.table.Table.{Table}
 use Rattle.par_typed.specs.Plain.{Body}
 use Rattle.par_typed.specs.Members.{IsClass}
 use Rattle.par_class.specs.declared.file.ClassFile.{ClassFile}
-use Rattle.par_descriptor_laws.specs.par_single.Descriptors.{Text}
-use Rattle.par_descriptor_laws.specs.par_single.Members.{own_name, own_names}
-use Rattle.par_descriptor_laws.specs.par_code_form.Named.{of_class, class_word}
-use Rattle.par_compile_laws.specs.par_place_laws.Named.{is_builtin, full_name}
+use Rattle.par_compile_laws.specs.par_single.Descriptors.{Text}
+use Rattle.par_compile_laws.specs.par_single.Members.{own_name, own_names}
+use Rattle.par_compile_laws.specs.par_code_form.Named.{of_class, class_word}
+use Rattle.par_compile_laws.specs.par_code_form.PoolNames.{is_builtin, full_name}
 use Rattle.par_loader.specs.par_link.Builtins.{builtin}
 use Rattle.par_loader.proofs.par_link.Passing.{any-at}
 use Rattle.par_loader.specs.Mentions.{is_unread}

@@ -8,9 +8,9 @@ use Rattle.par_pool.specs.declared.constant.Constant.{Constant}
 use Rattle.par_pool.specs.declared.constant.Constant.TheVariants as constant
 use Rattle.par_pool.specs.Entries.{entry_at}
 use Rattle.par_class.specs.declared.file.ClassFile.{ClassFile}
-use Rattle.par_descriptor_laws.specs.par_single.Members.{Member, text_at, own_name, own_names}
-use Rattle.par_descriptor_laws.specs.par_single.Members.{member_at}
-use Rattle.par_descriptor_laws.specs.par_single.Described.{is_taken}
+use Rattle.par_compile_laws.specs.par_single.Members.{Member, text_at, own_name, own_names}
+use Rattle.par_compile_laws.specs.par_single.Members.{member_at}
+use Rattle.par_compile_laws.specs.par_single.Described.{is_taken}
 use Rattle.par_loader.specs.par_link.entry.Builtin.{Builtin}
 use Rattle.par_loader.specs.par_link.entry.Named.{Named}
 use Rattle.par_loader.specs.par_link.Builtins.{builtin, builtin_field, builtin_method}

@@ -15,11 +15,11 @@ use Rattle.par_typed.specs.Plain.{TSta, Body}
 use Rattle.par_typed.specs.Members.{methods_in}
 use Rattle.par_class.specs.declared.file.ClassFile.{ClassFile}
 use Rattle.par_class.specs.declared.file.MethodFile.{MethodFile}
-use Rattle.par_descriptor_laws.specs.par_single.Descriptors.{Text}
-use Rattle.par_descriptor_laws.specs.par_single.Members.{own_name, is_static, text_at, is_method_of}
-use Rattle.par_descriptor_laws.specs.par_single.Described.{main_member}
-use Rattle.par_descriptor_laws.specs.par_code_form.Named.{class_word, descriptor, descriptors}
-use Rattle.par_descriptor_laws.specs.par_code_form.Named.{method_descriptor}
+use Rattle.par_compile_laws.specs.par_single.Descriptors.{Text}
+use Rattle.par_compile_laws.specs.par_single.Members.{own_name, is_static, text_at, is_method_of}
+use Rattle.par_compile_laws.specs.par_single.Described.{main_member}
+use Rattle.par_compile_laws.specs.par_code_form.Named.{class_word, descriptor, descriptors}
+use Rattle.par_compile_laws.specs.par_code_form.Named.{method_descriptor}
 use Rattle.par_loader.proofs.par_link.Passing.{any-at}
 use Rattle.par_loader.specs.Judged.{is_main, has_main}
 use Rattle.par_compile_laws.specs.Files.{FIRST_DECLARED, IsFileOf, IsMethodOf}

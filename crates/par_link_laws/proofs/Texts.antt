@@ -2,10 +2,10 @@
 use Rattle.std.proofs.Common.{◌≡◌, ℕ, List, ap, ◌∙◌}
 use Rattle.par_pool.specs.declared.constant.Constant.{Constant}
 use Rattle.par_pool.specs.Entries.{IsUtf8At, IsClassAt, IsNameTypeAt}
-use Rattle.par_descriptor_laws.specs.par_single.Descriptors.{Text}
-use Rattle.par_descriptor_laws.specs.par_single.Members.{text_of, text_at, class_name_of}
-use Rattle.par_descriptor_laws.specs.par_single.Members.{class_name_at}
-use Rattle.par_descriptor_laws.specs.par_single.Members.{member_of, member_at}
+use Rattle.par_compile_laws.specs.par_single.Descriptors.{Text}
+use Rattle.par_compile_laws.specs.par_single.Members.{text_of, text_at, class_name_of}
+use Rattle.par_compile_laws.specs.par_single.Members.{class_name_at}
+use Rattle.par_compile_laws.specs.par_single.Members.{member_of, member_at}
 
 module _ (pool : List Constant) where
   pub text-is : (index : ℕ) (text : Text) → IsUtf8At pool index text → text_at pool index ≡ text

@@ -12,9 +12,9 @@ use Rattle.std.specs.Str.{bytes_eq}
 use Rattle.par_pool.specs.declared.constant.Constant.{Constant}
 use Rattle.par_pool.specs.declared.constant.Constant.TheVariants as constant
 use Rattle.par_class.specs.declared.file.ClassFile.{ClassFile}
-use Rattle.par_descriptor_laws.specs.par_single.Descriptors.{Text}
-use Rattle.par_descriptor_laws.specs.par_single.Members.{own_name, own_names}
-use Rattle.par_descriptor_laws.specs.par_single.Described.{is_taken, differ}
+use Rattle.par_compile_laws.specs.par_single.Descriptors.{Text}
+use Rattle.par_compile_laws.specs.par_single.Members.{own_name, own_names}
+use Rattle.par_compile_laws.specs.par_single.Described.{is_taken, differ}
 use Rattle.par_loader.specs.par_link.Firsts.{first_repeated}
 use Rattle.par_loader.specs.par_link.Order.{at, in_class, member_fault, description_fault}
 use Rattle.par_loader.specs.par_link.Order.{constant_fault}

@@ -11,9 +11,9 @@ use Rattle.par_instr.proofs.Spellings.{each_is_listed}
 use Rattle.par_pool.specs.declared.constant.Constant.{Constant}
 use Rattle.par_class.specs.declared.file.CodeAttr.{CodeAttr}
 use Rattle.par_class.specs.declared.file.MethodFile.{MethodFile}
-use Rattle.par_descriptor_laws.specs.par_code_form.declared.labelled.Labelled.{Labelled}
-use Rattle.par_compile_laws.specs.par_place_laws.Placed.{bytes_of, IsWritable, offset_of}
-use Rattle.par_compile_laws.specs.par_place_laws.Placed.{instructions}
+use Rattle.par_compile_laws.specs.par_code_form.declared.labelled.Labelled.{Labelled}
+use Rattle.par_compile_laws.specs.par_code_form.Placed.{bytes_of, IsWritable, offset_of}
+use Rattle.par_compile_laws.specs.par_code_form.Placed.{instructions}
 use Rattle.par_loader.specs.par_link.Stops.{passed, left_after, left, stop_at, first_stop}
 use Rattle.par_compile_laws.specs.Members.{Member}
 use Rattle.par_compile_laws.specs.Files.{IsCode, IsMethodOf}

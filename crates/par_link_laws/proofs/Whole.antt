@@ -10,8 +10,8 @@ use Rattle.par_typed.specs.Plain.{Body}
 use Rattle.par_pool.specs.declared.constant.Constant.{Constant}
 use Rattle.par_pool.specs.declared.constant.Constant.TheVariants as constant
 use Rattle.par_class.specs.declared.file.ClassFile.{ClassFile}
-use Rattle.par_compile_laws.specs.par_place_laws.Named.{full_name}
-use Rattle.par_descriptor_laws.specs.par_single.Described.{is_taken}
+use Rattle.par_compile_laws.specs.par_code_form.PoolNames.{full_name}
+use Rattle.par_compile_laws.specs.par_single.Described.{is_taken}
 use Rattle.par_loader.specs.par_link.Linked.{AreLinked}
 use Rattle.par_loader.proofs.par_link.Smallness.{spelled-small}
 use Rattle.par_compile_laws.specs.Constants.{IsConstant}

@@ -4,17 +4,17 @@ use Rattle.par_typed.specs.declared.table.Table.{Table}
 use Rattle.par_typed.specs.declared.table.MethodInfo.{MethodInfo}
 use Rattle.par_typed.specs.Plain.{TSta, Body}
 use Rattle.par_class.specs.declared.file.ClassFile.{ClassFile}
-use Rattle.par_descriptor_laws.specs.par_code_form.Method.{labelled}
-use Rattle.par_descriptor_laws.specs.par_code_form.Named.{class_word, words_of}
-use Rattle.par_descriptor_laws.specs.par_code_form.declared.item.Item.{Item}
-use Rattle.par_descriptor_laws.specs.par_code_form.declared.item.Item.TheVariants.{Label, Op, Const}
-use Rattle.par_descriptor_laws.specs.par_code_form.declared.item.Item.TheVariants.{Jump}
-use Rattle.par_descriptor_laws.specs.par_code_form.declared.item.Item.TheVariants.{Member}
-use Rattle.par_descriptor_laws.specs.par_code_form.declared.item.Item.TheVariants.{ClassOp, LockOp}
-use Rattle.par_descriptor_laws.specs.par_code_form.declared.labelled.Labelled.{Labelled}
+use Rattle.par_compile_laws.specs.par_code_form.Method.{labelled}
+use Rattle.par_compile_laws.specs.par_code_form.Named.{class_word, words_of}
+use Rattle.par_compile_laws.specs.par_code_form.declared.item.Item.{Item}
+use Rattle.par_compile_laws.specs.par_code_form.declared.item.Item.TheVariants.{Label, Op, Const}
+use Rattle.par_compile_laws.specs.par_code_form.declared.item.Item.TheVariants.{Jump}
+use Rattle.par_compile_laws.specs.par_code_form.declared.item.Item.TheVariants.{Member}
+use Rattle.par_compile_laws.specs.par_code_form.declared.item.Item.TheVariants.{ClassOp, LockOp}
+use Rattle.par_compile_laws.specs.par_code_form.declared.labelled.Labelled.{Labelled}
 use Rattle.par_class.specs.declared.file.CodeAttr.{CodeAttr}
-use Rattle.par_compile_laws.specs.par_place_laws.Named.{full_name}
-use Rattle.par_compile_laws.specs.par_place_laws.Placed.{IsPlaced}
+use Rattle.par_compile_laws.specs.par_code_form.PoolNames.{full_name}
+use Rattle.par_compile_laws.specs.par_code_form.Placed.{IsPlaced}
 use Rattle.std.specs.List.{AllByRecursion}
 use Rattle.par_loader.specs.Mentions.{is_unread}
 use Rattle.par_loader.specs.par_link.Order.{first_broken}

@@ -13,19 +13,19 @@ use Rattle.par_typed.specs.declared.table.MethodInfo.{MethodInfo}
 use Rattle.par_typed.specs.declared.table.Table.{Table}
 use Rattle.par_typed.specs.Plain.{TSta, Body}
 use Rattle.par_typed.specs.Members.{IsClass, field_at, channel_at, method_at}
-use Rattle.par_table_laws.specs.Names.{AreNamesApart}
+use Rattle.par_program_laws.specs.TableNames.{AreNamesApart}
 use Rattle.par_values.specs.Areas.{Name}
 use Rattle.par_compile_laws.specs.par_run_laws.Names.{body_of}
-use Rattle.par_descriptor_laws.specs.par_code_form.declared.item.Item.{Item}
-use Rattle.par_descriptor_laws.specs.par_code_form.declared.item.Item.TheVariants.{Label, Op, Const}
-use Rattle.par_descriptor_laws.specs.par_code_form.declared.item.Item.TheVariants.{Jump}
-use Rattle.par_descriptor_laws.specs.par_code_form.declared.item.Item.TheVariants.{Member}
-use Rattle.par_descriptor_laws.specs.par_code_form.declared.item.Item.TheVariants.{ClassOp, LockOp}
-use Rattle.par_descriptor_laws.specs.par_code_form.declared.labelled.Labelled.{Labelled}
-use Rattle.par_descriptor_laws.specs.par_code_form.Method.{labelled}
-use Rattle.par_descriptor_laws.specs.par_code_form.Named.{class_word, descriptor, method_descriptor}
-use Rattle.par_descriptor_laws.specs.par_code_form.Named.{words_of}
-use Rattle.par_descriptor_laws.specs.par_code_form.Opcodes.{INVOKEVIRTUAL}
+use Rattle.par_compile_laws.specs.par_code_form.declared.item.Item.{Item}
+use Rattle.par_compile_laws.specs.par_code_form.declared.item.Item.TheVariants.{Label, Op, Const}
+use Rattle.par_compile_laws.specs.par_code_form.declared.item.Item.TheVariants.{Jump}
+use Rattle.par_compile_laws.specs.par_code_form.declared.item.Item.TheVariants.{Member}
+use Rattle.par_compile_laws.specs.par_code_form.declared.item.Item.TheVariants.{ClassOp, LockOp}
+use Rattle.par_compile_laws.specs.par_code_form.declared.labelled.Labelled.{Labelled}
+use Rattle.par_compile_laws.specs.par_code_form.Method.{labelled}
+use Rattle.par_compile_laws.specs.par_code_form.Named.{class_word, descriptor, method_descriptor}
+use Rattle.par_compile_laws.specs.par_code_form.Named.{words_of}
+use Rattle.par_compile_laws.specs.par_code_form.Opcodes.{INVOKEVIRTUAL}
 use Rattle.par_compile_laws.specs.Constants.{frame_classes}
 use Rattle.par_compile_laws.specs.Files.{FIRST_DECLARED, declared_classes}
 

@@ -8,8 +8,8 @@ use Rattle.par_typed.specs.Plain.{Body}
 use Rattle.par_pool.specs.declared.reader.TheConstants.{LONGEST_CLASS}
 use Rattle.par_class.specs.declared.file.ClassFile.{ClassFile}
 use Rattle.par_class.specs.Spelling.{Spells}
-use Rattle.par_descriptor_laws.specs.par_single.Members.{own_name, own_names}
-use Rattle.par_descriptor_laws.specs.par_code_form.Named.{class_word}
+use Rattle.par_compile_laws.specs.par_single.Members.{own_name, own_names}
+use Rattle.par_compile_laws.specs.par_code_form.Named.{class_word}
 use Rattle.par_loader.specs.par_link.Linked.{AreLinked}
 use Rattle.par_loader.specs.Begun.{BeginsMain}
 use Rattle.par_loader.specs.Mentions.{names_unread}

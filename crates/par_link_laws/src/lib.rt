@@ -2,7 +2,10 @@
 //!
 //! The laws say that no rule of linking is broken by the files of a program whose code names what
 //! the program has, that no refusal comes where they are loaded for its class `main`, and what is
-//! loaded then. The crate reads and writes no file.
+//! loaded then. And they say of the well-typed program that is compiled, which has no policies any
+//! more, that it is what linking asks: names are names and differ, and its code names what it has.
+//! The crate reads and writes no file.
 #![tactic(auto)]
 
 pub mod laws;
+pub mod linkable_laws;

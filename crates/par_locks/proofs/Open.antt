@@ -2,8 +2,8 @@
 use Rattle.std.proofs.Common.{◌≡◌, ℕ, zero, suc, Option, None, List, [], ◌∷◌, get_or, refl}
 use Rattle.std.specs.Prelude.{map}
 use Rattle.par_bits.specs.Sets.{Set}
-use Rattle.par_flow_laws.specs.Lattice.{numbers}
-use Rattle.par_flow_laws.specs.Facts.{blank}
+use Rattle.par_program_laws.specs.Lattice.{numbers}
+use Rattle.par_program_laws.specs.Facts.{blank}
 use Rattle.par_rounds.specs.par_except.Seen.{may_see}
 use Rattle.par_rounds.specs.par_ways.declared.fact.Fact.{Fact}
 use Rattle.par_rounds.specs.par_ways.Seen.{seen_facts}

@@ -7,7 +7,7 @@ ghost use Rattle.par_typed.specs.Shown as shown;
 ghost use Rattle.par_rounds.specs.par_except.Seen.{may_see};
 ghost use Rattle.par_rounds.specs.par_pass_laws.Written.{table as by_point};
 ghost use Rattle.par_rounds.specs.par_ways.Seen.{seen_facts};
-ghost use Rattle.par_flow_laws.specs.Orderly.{IsOrderlyBody};
+ghost use Rattle.par_program_laws.specs.Orderly.{IsOrderlyBody};
 ghost use Rattle.par_locks.specs.Open.{entering, open_at, AreOpenOf};
 ghost use Rattle.par_rounds.specs.par_ways.Changes.{may_have};
 

@@ -1,4 +1,5 @@
+pub mod Bridge
 pub mod Rules
 pub mod Steps
-pub use Rattle.par_engine_laws.proofs.par_link as par_link
-pub use Rattle.par_engine_laws.proofs.par_step_laws as par_step_laws
+pub use Rattle.par_step_laws.proofs as par_step_laws
+pub use Rattle.par_step_laws.proofs.par_link as par_link

@@ -5,13 +5,13 @@ use Rattle.par_code_form.specs.par_values.declared.run.Event.{Event}
 use Rattle.par_code_form.specs.par_values.declared.run.Ending.{Ending}
 use Rattle.par_code_form.specs.par_values.Ran.{Ran, Fine, ended, with_event}
 use Rattle.par_code_form.specs.par_values.Ran as ran
-use Rattle.par_engine_laws.specs.par_secrecy.Runs.{Run, stopped, with_first}
-use Rattle.par_engine_laws.specs.par_secrecy.Secure.{events}
-use Rattle.par_engine_laws.specs.par_secrecy.Shows.{shown_run, IsFrontOf}
-use Rattle.par_engine_laws.specs.par_step_laws.State.{State}
-use Rattle.par_engine_laws.specs.par_step_laws.Step.{Turn, Silent, Shows, Ends}
-use Rattle.par_engine_laws.specs.par_step_laws.Run.{followed}
-use Rattle.par_engine_laws.specs.Engine.{Program, turn, run}
+use Rattle.par_step_laws.specs.par_secrecy.Runs.{Run, stopped, with_first}
+use Rattle.par_step_laws.specs.par_secrecy.Secure.{events}
+use Rattle.par_step_laws.specs.par_secrecy.Shows.{shown_run, IsFrontOf}
+use Rattle.par_step_laws.specs.State.{State}
+use Rattle.par_step_laws.specs.Step.{Turn, Silent, Shows, Ends}
+use Rattle.par_step_laws.specs.Run.{followed}
+use Rattle.par_match_laws.specs.Engine.{Program, turn, run}
 
 abbrev pub Told : Type 0
 Told = ℕ → Run

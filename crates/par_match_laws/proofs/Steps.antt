@@ -6,7 +6,7 @@ use Rattle.std.specs.Prelude.{pos, ◌+ℤ◌, ◌-ℤ◌, ◌==◌}
 use Rattle.std.proofs.lemmas.Bool.{le-ltb, ne_eqb}
 use Rattle.std.specs.Prelude.{neg_ℤ, if◌then◌else◌, is_none}
 use Rattle.par_code_form.specs.par_values.declared.kind.Kind.{Kind}
-use Rattle.par_engine_laws.specs.par_single.Links.{kind_or_any}
+use Rattle.par_step_laws.specs.par_single.Links.{kind_or_any}
 use Rattle.std.proofs.Math.IntN.{+ℤ_comm, +ℤ_assoc, +ℤ_invl, +ℤ_idr}
 use Rattle.par_code_form.specs.par_values.declared.value.MVal.{MVal}
 use Rattle.par_code_form.specs.par_values.declared.value.MVal.TheVariants.{Ref}
@@ -22,18 +22,18 @@ use Rattle.par_code_form.specs.par_values.Reasons.{misreturns, misused}
 use Rattle.par_code_form.specs.par_values.Effects.{Goes, Happens, Jumps, Calls, Throws}
 use Rattle.par_code_form.specs.par_values.Effects.{ThrowsObject, Returns}
 use Rattle.par_code_form.specs.par_values.Effects.{ReturnsWith, effect}
-use Rattle.par_engine_laws.specs.par_step_laws.State.{Frame, State}
-use Rattle.par_engine_laws.specs.par_step_laws.Step.{Silent, Shows, without_locks, state_with}
-use Rattle.par_engine_laws.specs.par_step_laws.Step.{offset, or_2}
-use Rattle.par_engine_laws.specs.Engine.{Found, Program, turn, applied, done_by, spot, decided}
-use Rattle.par_engine_laws.specs.Engine.{turn_at}
-use Rattle.par_engine_laws.specs.Engine.{reason_against, caught}
-use Rattle.par_engine_laws.specs.Engine as gen
+use Rattle.par_step_laws.specs.State.{Frame, State}
+use Rattle.par_step_laws.specs.Step.{Silent, Shows, without_locks, state_with}
+use Rattle.par_step_laws.specs.Step.{offset, or_2}
+use Rattle.par_match_laws.specs.Engine.{Found, Program, turn, applied, done_by, spot, decided}
+use Rattle.par_match_laws.specs.Engine.{turn_at}
+use Rattle.par_match_laws.specs.Engine.{reason_against, caught}
+use Rattle.par_match_laws.specs.Engine as gen
 use Rattle.par_code_form.specs.declared.item.Item.{Item}
 use Rattle.par_code_form.specs.declared.item.Item.TheVariants.{Label, Op, Const, Jump, Member}
 use Rattle.par_code_form.specs.declared.item.Item.TheVariants.{ClassOp, LockOp}
 use Rattle.par_code_form.specs.par_values.Areas.{first_locals}
-use Rattle.par_engine_laws.specs.par_step_laws.State.{entered}
+use Rattle.par_step_laws.specs.State.{entered}
 use Rattle.par_match_laws.specs.Labelled.{calls, Labelled, Naming, lead, skip, target, found}
 use Rattle.par_match_laws.specs.Labelled.{silent}
 use Rattle.par_match_laws.specs.Labelled.{is_there, stands, of_labelled}
@@ -173,7 +173,7 @@ caught_found p sound x (f ∷ fs) =
     pick (caught_found p sound x fs) (p.handler x f.class f.method f.at) refl
   where
     pick : IsFound p (caught p x fs) → (o : Option ℕ) → p.handler x f.class f.method f.at ≡ o
-        → IsFound p (Rattle.par_engine_laws.specs.par_step_laws.Handlers.caught_by o f fs
+        → IsFound p (Rattle.par_step_laws.specs.Handlers.caught_by o f fs
         (caught p x fs))
     pick g None e = g
     pick g (Some to) e = let h = sound x f.class f.method f.at to e in

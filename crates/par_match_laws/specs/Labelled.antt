@@ -20,7 +20,7 @@ use Rattle.par_code_form.specs.par_values.Operations.{JumpIfSame}
 use Rattle.par_code_form.specs.par_values.Operations.{JumpIfNull, GetStatic, PutStatic, GetField}
 use Rattle.par_code_form.specs.par_values.Operations.{PutField}
 use Rattle.par_code_form.specs.par_values.Operations.{InvokeStatic, InvokeSpecial, InvokeVirtual}
-use Rattle.par_engine_laws.specs.Engine.{Found, Program}
+use Rattle.par_match_laws.specs.Engine.{Found, Program}
 
 -- the code of a method, and the kind of what the method gives
 pub record Labelled : Type 0 where

@@ -1,7 +1,9 @@
+pub mod Engine
+pub mod Files
+pub mod EngineLaws
 pub mod Labelled
+pub mod Naming
+pub use Rattle.par_step_laws.specs.par_link as par_link
+pub use Rattle.par_step_laws.specs as par_step_laws
 pub use Rattle.par_code_form.specs as par_code_form
 pub use Rattle.par_code_form.specs.par_completes as par_completes
-pub use Rattle.par_engine_laws.specs as par_engine_laws
-pub use Rattle.par_engine_laws.specs.par_link as par_link
-pub use Rattle.par_engine_laws.specs.par_single as par_single
-pub use Rattle.par_engine_laws.specs.par_step_laws as par_step_laws

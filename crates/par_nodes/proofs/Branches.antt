@@ -9,15 +9,15 @@ use Rattle.par_typed.specs.Plain.{TExp, MayTExp, TSta, MayTSta, TStas, TCatches}
 use Rattle.par_typed.specs.declared.stmt.TStmt.{TStmt}
 use Rattle.par_typed.specs.declared.stmt.TCatch.{TCatch}
 use Rattle.par_typed.specs.Shown.{does, all_do, all_catch}
-use Rattle.par_flow_laws.specs.Kinds as kinds
-use Rattle.par_flow_laws.specs.Kinds.{Next, Normal, Loop, Catches}
+use Rattle.par_program_laws.specs.Kinds as kinds
+use Rattle.par_program_laws.specs.Kinds.{Next, Normal, Loop, Catches}
 use Rattle.par_bits.specs.Sets.{none, adding}
-use Rattle.par_flow_laws.specs.Declares.{Declares}
-use Rattle.par_flow_laws.specs.Rules.{From, Entry, After, Tested, Raised, Opened, Shut, Assigned}
-use Rattle.par_flow_laws.specs.Rules.{Node}
-use Rattle.par_flow_laws.specs.Rules.{node, Rules, Done, Part, Test, Heads, Leaves, goes_on, can}
-use Rattle.par_flow_laws.specs.Body.{past, tested, null_test, if_not, is_forever, exp, sta, stas}
-use Rattle.par_flow_laws.specs.Body.{catches, caught}
+use Rattle.par_program_laws.specs.Declares.{Declares}
+use Rattle.par_program_laws.specs.Rules.{From, Entry, After, Tested, Raised, Opened, Shut, Assigned}
+use Rattle.par_program_laws.specs.Rules.{Node}
+use Rattle.par_program_laws.specs.Rules.{node, Rules, Done, Part, Test, Heads, Leaves, goes_on, can}
+use Rattle.par_program_laws.specs.Body.{past, tested, null_test, if_not, is_forever, exp, sta, stas}
+use Rattle.par_program_laws.specs.Body.{catches, caught}
 use Rattle.par_nodes.specs.Starts.{start_at, behind_value, goes_first, else_rules, catch_start}
 use Rattle.par_nodes.proofs.Rows.{drop_at, drop_all, start_past}
 

@@ -7,11 +7,12 @@ use Rattle.std.proofs.Common.{refl, sym, ap, ◌∙◌, arith}
 use Rattle.std.proofs.lemmas.List.{drop-set, take-set}
 use Rattle.std.proofs.lemmas.Bool.{eqb-true}
 use Rattle.std.proofs.Math.Path.{fun_ext}
-use Rattle.par_flow_laws.specs.Kinds.{Kind, Normal, Return, Break, Continue, Throw, same, Absorber}
-use Rattle.par_flow_laws.specs.Kinds.{absorbed, Next}
-use Rattle.par_flow_laws.specs.Rules.{From, Worth, Node, node, Rules, Done, Part, Test, Heads}
-use Rattle.par_flow_laws.specs.Rules.{Leaves}
-use Rattle.par_flow_laws.specs.Rules.{Worths, part_can, comes, can, can_by}
+use Rattle.par_program_laws.specs.Kinds.{Kind, Normal, Return, Break, Continue, Throw, same}
+use Rattle.par_program_laws.specs.Kinds.{Absorber}
+use Rattle.par_program_laws.specs.Kinds.{absorbed, Next}
+use Rattle.par_program_laws.specs.Rules.{From, Worth, Node, node, Rules, Done, Part, Test, Heads}
+use Rattle.par_program_laws.specs.Rules.{Leaves}
+use Rattle.par_program_laws.specs.Rules.{Worths, part_can, comes, can, can_by}
 use Rattle.par_nodes.specs.declared.rule.Kind as code
 use Rattle.par_nodes.specs.declared.rule.Origin.{Origin}
 use Rattle.par_nodes.specs.declared.rule.Start.TheVariants as start

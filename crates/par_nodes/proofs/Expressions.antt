@@ -14,11 +14,11 @@ use Rattle.par_typed.proofs.Shown.{shown_new}
 use Rattle.par_typed.proofs.Shown.{shown_local, shown_static, shown_field, shown_input}
 use Rattle.par_typed.proofs.Shown.{shown_output, shown_call, shown_neg, shown_not}
 use Rattle.par_typed.proofs.Shown.{shown_binary}
-use Rattle.par_flow_laws.specs.Kinds.{Next}
-use Rattle.par_flow_laws.specs.Declares.{Declares}
-use Rattle.par_flow_laws.specs.Rules.{From, Entry, Given, Held, Value, node, Rules, Done, Part}
-use Rattle.par_flow_laws.specs.Rules.{Worths, goes_on}
-use Rattle.par_flow_laws.specs.Body.{past, tested, null_test, second, divides, skips, exp, args}
+use Rattle.par_program_laws.specs.Kinds.{Next}
+use Rattle.par_program_laws.specs.Declares.{Declares}
+use Rattle.par_program_laws.specs.Rules.{From, Entry, Given, Held, Value, node, Rules, Done, Part}
+use Rattle.par_program_laws.specs.Rules.{Worths, goes_on}
+use Rattle.par_program_laws.specs.Body.{past, tested, null_test, second, divides, skips, exp, args}
 use Rattle.par_nodes.specs.Starts.{call_start, call_does, behind}
 
 -- an expression from the rules of its form

@@ -5,7 +5,7 @@ use Rattle.par_typed.specs.declared.expr.TExprKind.{Binary'}
 use Rattle.par_typed.specs.declared.expr.TExprKind.TheVariants as expr
 use Rattle.par_typed.specs.Plain.{Mark}
 use Rattle.par_typed.specs.Shown.{kind_at}
-use Rattle.par_flow_laws.specs.Body.{is_sure, is_forever}
+use Rattle.par_program_laws.specs.Body.{is_sure, is_forever}
 
 -- what is no number is not surely another than 0
 pub never_sure : (k : TExprKind) (m : Mark) → ((n : ℤ) → k ≡ expr.Int n → ⊥)

@@ -4,10 +4,10 @@ use Rattle.std.proofs.Common.{refl, sym, subst, ap, ◌∙◌, arith}
 use Rattle.par_typed.specs.declared.table.ThrowInfo.{ThrowInfo}
 use Rattle.par_typed.specs.declared.expr.TExpr.{TExpr}
 use Rattle.par_typed.specs.Shown.{shown, all_shown}
-use Rattle.par_flow_laws.specs.Kinds.{Next, Throw}
-use Rattle.par_flow_laws.specs.Declares.{Declares, Method, throws_of}
-use Rattle.par_flow_laws.specs.Rules.{From, Raised, Shut, Rules, Part, Leaves}
-use Rattle.par_flow_laws.specs.Body.{past, thrown, exp, args, args_past, args_count}
+use Rattle.par_program_laws.specs.Kinds.{Next, Throw}
+use Rattle.par_program_laws.specs.Declares.{Declares, Method, throws_of}
+use Rattle.par_program_laws.specs.Rules.{From, Raised, Shut, Rules, Part, Leaves}
+use Rattle.par_program_laws.specs.Body.{past, thrown, exp, args, args_past, args_count}
 use Rattle.par_nodes.specs.Starts.{start_at}
 
 ahead : {A : Type 0} (xs : List A) (i : ℕ) (d : A) → i < length xs

@@ -17,13 +17,15 @@ use Rattle.par_typed.proofs.Shown.{does_close}
 use Rattle.par_typed.proofs.Shown.{does_set_local, does_set_static, does_set_field}
 use Rattle.par_typed.proofs.Shown.{does_eval}
 use Rattle.par_typed.proofs.Shown.{does_when}
-use Rattle.par_flow_laws.specs.Kinds as kinds
-use Rattle.par_flow_laws.specs.Kinds.{Next, Normal, Loop, Catches}
-use Rattle.par_flow_laws.specs.Declares.{Declares}
-use Rattle.par_flow_laws.specs.Rules.{From, Entry, After, Tested, Raised, Opened, Shut, Assigned}
-use Rattle.par_flow_laws.specs.Rules.{Node, node, Rules, Done, Part, Test, Heads, Leaves, goes_on}
-use Rattle.par_flow_laws.specs.Body.{past, tested, null_test, if_not, is_forever, caught, exp, sta}
-use Rattle.par_flow_laws.specs.Body.{stas, catches}
+use Rattle.par_program_laws.specs.Kinds as kinds
+use Rattle.par_program_laws.specs.Kinds.{Next, Normal, Loop, Catches}
+use Rattle.par_program_laws.specs.Declares.{Declares}
+use Rattle.par_program_laws.specs.Rules.{From, Entry, After, Tested, Raised, Opened, Shut, Assigned}
+use Rattle.par_program_laws.specs.Rules.{Node, node, Rules, Done, Part, Test, Heads, Leaves}
+use Rattle.par_program_laws.specs.Rules.{goes_on}
+use Rattle.par_program_laws.specs.Body.{past, tested, null_test, if_not, is_forever, caught, exp}
+use Rattle.par_program_laws.specs.Body.{sta}
+use Rattle.par_program_laws.specs.Body.{stas, catches}
 use Rattle.par_nodes.specs.Starts.{behind_value, goes_first, else_rules}
 use Rattle.par_nodes.proofs.Branches.{block_is, if_is, while_is, try_is, return_is, break_is}
 use Rattle.par_nodes.proofs.Branches.{continue_is, throw_is, open_is, close_is, set_local_is}

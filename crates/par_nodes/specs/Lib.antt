@@ -2,5 +2,5 @@ pub mod Seen
 pub mod Listed
 pub mod Possible
 pub mod Starts
-pub use Rattle.par_flow_laws.specs as par_flow_laws
-pub use Rattle.par_flow_laws.specs.par_typed as par_typed
+pub use Rattle.par_program_laws.specs as par_program_laws
+pub use Rattle.par_program_laws.specs.par_typed as par_typed

@@ -1,7 +1,7 @@
 -- Completions in lists.
 use Rattle.std.specs.Prelude.{ℕ, Bool, false, ◌||◌, ◌&&◌, not, List, [], ◌∷◌, map, take, drop}
-use Rattle.par_flow_laws.specs.Kinds.{Kind, same, Absorber, absorbed}
-use Rattle.par_flow_laws.specs.Rules.{Rules, Done, Part, Test, Heads, Leaves, Worths, can}
+use Rattle.par_program_laws.specs.Kinds.{Kind, same, Absorber, absorbed}
+use Rattle.par_program_laws.specs.Rules.{Rules, Done, Part, Test, Heads, Leaves, Worths, can}
 use Rattle.par_nodes.specs.declared.rule.Kind as code
 use Rattle.par_nodes.specs.Seen.{seen_kind}
 

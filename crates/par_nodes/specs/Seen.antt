@@ -1,9 +1,9 @@
 -- What the tree of nodes and rules means.
 use Rattle.std.specs.Prelude.{ℕ, Option, Some, None}
-use Rattle.par_flow_laws.specs.par_policy.Numbers.{has}
+use Rattle.par_program_laws.specs.par_policy.Numbers.{has}
 use Rattle.par_bits.specs.Sets.{none, adding}
-use Rattle.par_flow_laws.specs.Kinds as kinds
-use Rattle.par_flow_laws.specs.Rules as plain
+use Rattle.par_program_laws.specs.Kinds as kinds
+use Rattle.par_program_laws.specs.Rules as plain
 use Rattle.par_nodes.specs.declared.rule.Kind as code_kind
 use Rattle.par_nodes.specs.declared.rule.Kind.TheVariants as kind
 use Rattle.par_nodes.specs.declared.rule.Start as code_start

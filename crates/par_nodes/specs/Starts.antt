@@ -2,14 +2,14 @@
 use Rattle.std.specs.Prelude.{ℕ, zero, suc, cond}
 use Rattle.par_typed.specs.Plain.{MayTExp, Absent, Present, TExps, MayTSta, NoElse}
 use Rattle.par_typed.specs.Plain.{Otherwise}
-use Rattle.par_flow_laws.specs.Kinds as kinds
-use Rattle.par_flow_laws.specs.Kinds.{Next}
-use Rattle.par_flow_laws.specs.Declares.{Declares, Method}
-use Rattle.par_flow_laws.specs.Rules.{From, Entry, After, Value}
-use Rattle.par_flow_laws.specs.Rules.{Node, Rules, Done, Part, Leaves, Worths, goes_on, can}
-use Rattle.par_flow_laws.specs.Body.{past, null_test, called, exp, args_past, args_count}
-use Rattle.par_flow_laws.specs.Body.{args_tested}
-use Rattle.par_flow_laws.specs.Body.{sta}
+use Rattle.par_program_laws.specs.Kinds as kinds
+use Rattle.par_program_laws.specs.Kinds.{Next}
+use Rattle.par_program_laws.specs.Declares.{Declares, Method}
+use Rattle.par_program_laws.specs.Rules.{From, Entry, After, Value}
+use Rattle.par_program_laws.specs.Rules.{Node, Rules, Done, Part, Leaves, Worths, goes_on, can}
+use Rattle.par_program_laws.specs.Body.{past, null_test, called, exp, args_past, args_count}
+use Rattle.par_program_laws.specs.Body.{args_tested}
+use Rattle.par_program_laws.specs.Body.{sta}
 
 -- from where the part at the place is entered: the first from the way, each other from behind the
 -- one before

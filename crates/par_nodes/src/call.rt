@@ -1,18 +1,18 @@
 //! What a called method does.
 
 ghost use Rattle.std.specs.Prelude.{◌≡◌, IfOk, None, Some};
-ghost use Rattle.par_flow_laws.specs.par_policy.Numbers.{has};
-ghost use Rattle.par_flow_laws.specs.Declares.{declares, method_of, throws_of};
-ghost use Rattle.par_flow_laws.specs.Kinds as kinds;
-ghost use Rattle.par_flow_laws.specs.Rules as plain;
-ghost use Rattle.par_flow_laws.specs.Body.{called, thrown};
+ghost use Rattle.par_program_laws.specs.par_policy.Numbers.{has};
+ghost use Rattle.par_program_laws.specs.Declares.{declares, method_of, throws_of};
+ghost use Rattle.par_program_laws.specs.Kinds as kinds;
+ghost use Rattle.par_program_laws.specs.Rules as plain;
+ghost use Rattle.par_program_laws.specs.Body.{called, thrown};
 ghost use Rattle.par_nodes.specs.Seen.{seen_origin, seen_rules, seen_start, tested};
 
 use crate::draft::Draft;
 use crate::rule::{Kind, Locks, Origin, Start, Worth};
 use crate::{declared, make};
 use par_base::memory::NoMemory;
-use par_flow_laws::par_policy::Lockset;
+use par_program_laws::par_policy::Lockset;
 use par_typed::table::{MethodInfo, Table, ThrowInfo};
 use std::alloc::Global;
 

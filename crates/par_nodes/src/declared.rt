@@ -2,12 +2,12 @@
 
 ghost use Rattle.std.specs.Prelude.{◌≡◌};
 ghost use Rattle.std.specs.Option.{option_copied};
-ghost use Rattle.par_flow_laws.specs.Declares.{declares, method_of};
+ghost use Rattle.par_program_laws.specs.Declares.{declares, method_of};
 
 use par_typed::table::{MethodInfo, Table};
 
 /// The policy of a field.
-#[tactic(auto, unfolding(par_flow_laws::specs::Declares::declares))]
+#[tactic(auto, unfolding(par_program_laws::specs::Declares::declares))]
 pub fn field(table: &Table, class: u16, field: u16) -> u16
     ensures { result ≡ (declares table.now).field class field }
 {
@@ -21,7 +21,7 @@ pub fn field(table: &Table, class: u16, field: u16) -> u16
 }
 
 /// The policy of a channel.
-#[tactic(auto, unfolding(par_flow_laws::specs::Declares::declares))]
+#[tactic(auto, unfolding(par_program_laws::specs::Declares::declares))]
 pub fn channel(table: &Table, class: u16, channel: u16) -> u16
     ensures { result ≡ (declares table.now).channel class channel }
 {
@@ -35,7 +35,7 @@ pub fn channel(table: &Table, class: u16, channel: u16) -> u16
 }
 
 /// The policy of the births of a class.
-#[tactic(auto, unfolding(par_flow_laws::specs::Declares::declares))]
+#[tactic(auto, unfolding(par_program_laws::specs::Declares::declares))]
 pub fn birth(table: &Table, class: u16) -> u16
     ensures { result ≡ (declares table.now).birth class }
 {
@@ -46,7 +46,7 @@ pub fn birth(table: &Table, class: u16) -> u16
 }
 
 /// The policy of a lock that a `when` asks for.
-#[tactic(auto, unfolding(par_flow_laws::specs::Declares::declares))]
+#[tactic(auto, unfolding(par_program_laws::specs::Declares::declares))]
 pub fn lock(table: &Table, lock: u16) -> u16
     ensures { result ≡ (declares table.now).lock lock }
 {
@@ -60,7 +60,7 @@ pub fn lock(table: &Table, lock: u16) -> u16
 }
 
 /// A method.
-#[tactic(auto, unfolding(par_flow_laws::specs::Declares::declares))]
+#[tactic(auto, unfolding(par_program_laws::specs::Declares::declares))]
 pub fn method(table: &Table, class: u16, method: u16) -> Option<&MethodInfo>
     ensures { method_of (option_copied result) ≡ (declares table.now).method class method }
 {

@@ -1,7 +1,7 @@
 //! Nodes and rules together with their completions, which are known as soon as they are made.
 
 ghost use Rattle.std.specs.Prelude.{◌≡◌, [], IfOk};
-ghost use Rattle.par_flow_laws.specs.Rules as plain;
+ghost use Rattle.par_program_laws.specs.Rules as plain;
 ghost use Rattle.par_nodes.specs.Seen.{seen_node, seen_rules};
 ghost use Rattle.par_nodes.specs.Possible.{among, cans, parts_can};
 

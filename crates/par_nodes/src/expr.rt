@@ -2,10 +2,10 @@
 
 ghost use Rattle.std.specs.Prelude.{◌≡◌, IfOk};
 ghost use Rattle.par_typed.specs.Shown.{all_shown, receiver, shown};
-ghost use Rattle.par_flow_laws.specs.Kinds.{Next};
-ghost use Rattle.par_flow_laws.specs.Declares.{declares};
-ghost use Rattle.par_flow_laws.specs.Rules as plain;
-ghost use Rattle.par_flow_laws.specs.Body as body;
+ghost use Rattle.par_program_laws.specs.Kinds.{Next};
+ghost use Rattle.par_program_laws.specs.Declares.{declares};
+ghost use Rattle.par_program_laws.specs.Rules as plain;
+ghost use Rattle.par_program_laws.specs.Body as body;
 ghost use Rattle.par_nodes.specs.Seen.{seen_node, seen_origin, seen_rules, seen_start};
 ghost use Rattle.par_nodes.specs.Starts.{behind, call_does, call_start, start_at};
 

@@ -1,7 +1,7 @@
 //! The completions of a node, as they are found.
 
 ghost use Rattle.std.specs.Prelude.{◌≡◌, [], OnOk};
-ghost use Rattle.par_flow_laws.specs.Kinds as flow;
+ghost use Rattle.par_program_laws.specs.Kinds as flow;
 ghost use Rattle.par_nodes.specs.Seen.{seen_absorber, seen_kind};
 ghost use Rattle.par_nodes.specs.Possible.{among, apart, either};
 

@@ -1,9 +1,9 @@
 //! Rules with one more before them.
 
 ghost use Rattle.std.specs.Prelude.{◌≡◌, IfOk, [], ◌∷◌};
-ghost use Rattle.par_flow_laws.specs.Kinds as kinds;
-ghost use Rattle.par_flow_laws.specs.Body.{tested};
-ghost use Rattle.par_flow_laws.specs.Rules as plain;
+ghost use Rattle.par_program_laws.specs.Kinds as kinds;
+ghost use Rattle.par_program_laws.specs.Body.{tested};
+ghost use Rattle.par_program_laws.specs.Rules as plain;
 ghost use Rattle.par_nodes.specs.Possible.{cans, parts_can};
 ghost use Rattle.par_nodes.specs.Seen.{seen_absorber, seen_kind, seen_node, seen_origin};
 ghost use Rattle.par_nodes.specs.Seen.{seen_rules, seen_worth};

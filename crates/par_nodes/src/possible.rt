@@ -2,9 +2,9 @@
 
 ghost use Rattle.std.specs.Prelude.{◌≡◌, ◌<◌, ◌≤◌, Bool, true, false, IfOk, OnOk, [], ◌∷◌};
 ghost use Rattle.std.specs.Prelude.{List as Items, length, slice_set};
-ghost use Rattle.par_flow_laws.specs.par_policy.Numbers.{has};
-ghost use Rattle.par_flow_laws.specs.Kinds as flow;
-ghost use Rattle.par_flow_laws.specs.Rules as plain;
+ghost use Rattle.par_program_laws.specs.par_policy.Numbers.{has};
+ghost use Rattle.par_program_laws.specs.Kinds as flow;
+ghost use Rattle.par_program_laws.specs.Rules as plain;
 ghost use Rattle.par_nodes.specs.Seen.{seen_absorber, seen_kind, seen_origin, seen_rules};
 ghost use Rattle.par_nodes.specs.Possible.{among, apart, cans, coming, either, if_so, parts_can};
 ghost use Rattle.par_nodes.specs.Possible.{passed};

@@ -1,7 +1,7 @@
 //! Nodes and their rules.
 
 use par_base::list::List;
-use par_flow_laws::par_policy::Lockset;
+use par_program_laws::par_policy::Lockset;
 
 /// How an expression or a statement completes.
 #[derive(Clone, Copy)]

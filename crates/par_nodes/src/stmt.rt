@@ -4,10 +4,10 @@ ghost use Rattle.std.specs.Prelude.{◌≡◌, IfOk};
 ghost use Rattle.par_typed.specs.Shown.{all_catch, all_do, does, may_shown, otherwise};
 ghost use Rattle.par_typed.specs.Shown.{shown};
 ghost use Rattle.par_bits.specs.Sets.{adding, none};
-ghost use Rattle.par_flow_laws.specs.Declares.{declares};
-ghost use Rattle.par_flow_laws.specs.Kinds as kinds;
-ghost use Rattle.par_flow_laws.specs.Rules as plain;
-ghost use Rattle.par_flow_laws.specs.Body as body;
+ghost use Rattle.par_program_laws.specs.Declares.{declares};
+ghost use Rattle.par_program_laws.specs.Kinds as kinds;
+ghost use Rattle.par_program_laws.specs.Rules as plain;
+ghost use Rattle.par_program_laws.specs.Body as body;
 ghost use Rattle.par_nodes.specs.Seen.{seen_node, seen_origin, seen_rules, seen_start};
 ghost use Rattle.par_nodes.specs.Starts.{behind_value, catch_start, else_rules, goes_first};
 

@@ -13,10 +13,10 @@ use Rattle.par_scope.specs.Names.{Names, names_of}
 use Rattle.par_scope.specs.Home.{class_named}
 use Rattle.par_names.specs.Declarations.{classes_in, declared_classes}
 use Rattle.par_table.specs.par_faults.Limits.{class_limits}
-use Rattle.par_check_span_laws.specs.par_annotation_laws.Stmts.{Written}
-use Rattle.par_check_span_laws.specs.par_annotation_laws.Bodies.{typed_methods, typed_class}
-use Rattle.par_check_span_laws.specs.par_annotation_laws.Bodies.{typed_declaration}
-use Rattle.par_check_span_laws.specs.par_annotation_laws.Bodies.{typed_declarations}
+use Rattle.par_type_rules.specs.TypedStmts.{Written}
+use Rattle.par_type_rules.specs.TypedBodies.{typed_methods, typed_class}
+use Rattle.par_type_rules.specs.TypedBodies.{typed_declaration}
+use Rattle.par_type_rules.specs.TypedBodies.{typed_declarations}
 use Rattle.par_resolved.specs.Resolved.{table_of}
 use Rattle.par_typing.specs.Typed.{written}
 use Rattle.par_table.proofs.par_faults.Within.{limits_kept, class_within}

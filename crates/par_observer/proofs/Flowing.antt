@@ -13,9 +13,9 @@ use Rattle.par_refusals.specs.First.{first_of}
 use Rattle.par_type_rules.specs.Inferred.{all_inferred}
 use Rattle.par_table.proofs.par_faults.Few.{none_is_nothing}
 use Rattle.par_secure_laws.specs.par_typed_laws.WellTyped.{IsWellTyped}
-use Rattle.par_table_laws.specs.Births.{AreFieldsWritten}
-use Rattle.par_table_laws.specs.Declared.{IsWellDeclared}
-use Rattle.par_typing.proofs.par_source_table_laws.Written.{fields_are_written}
+use Rattle.par_program_laws.specs.Births.{AreFieldsWritten}
+use Rattle.par_program_laws.specs.WellDeclared.{IsWellDeclared}
+use Rattle.par_typing.proofs.WrittenFields.{fields_are_written}
 use Rattle.par_resolved.specs.Resolved.{table_of}
 use Rattle.par_scope.specs.Names.{IsFewTable}
 use Rattle.par_table.proofs.par_faults.Within.{limits_kept}

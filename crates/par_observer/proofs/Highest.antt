@@ -4,17 +4,17 @@ use Rattle.std.proofs.Common.{ℕ, List, [], ◌∷◌, Option, Some, None, fals
 use Rattle.par_bits.specs.Sets.{none}
 use Rattle.par_policy.specs.declared.clauses.Clause.{Clause}
 use Rattle.par_typed.specs.Plain.{Body}
-use Rattle.par_flow_laws.specs.Lattice.{Lattice, Seen, IsSeenBelow, policies}
-use Rattle.par_flow_laws.specs.Kinds as kind
-use Rattle.par_flow_laws.specs.Kinds.{Kind}
-use Rattle.par_flow_laws.specs.Ways.{Way, Lands, MayFlow, MayLand}
-use Rattle.par_flow_laws.specs.Facts.{Fact, Facts}
-use Rattle.par_flow_laws.specs.Declares.{Declares}
-use Rattle.par_flow_laws.specs.Rules.{Node, node, Rules, Done, Part, Test, Heads, Leaves, Worths}
-use Rattle.par_flow_laws.specs.Rules.{spot}
-use Rattle.par_flow_laws.specs.Rules.{Restores, MayLeave, Obeys, ObeysAll, MayHead, way}
-use Rattle.par_flow_laws.specs.Body.{sta}
-use Rattle.par_flow_laws.specs.Closed.{IsClosed, first}
+use Rattle.par_program_laws.specs.Lattice.{Lattice, Seen, IsSeenBelow, policies}
+use Rattle.par_program_laws.specs.Kinds as kind
+use Rattle.par_program_laws.specs.Kinds.{Kind}
+use Rattle.par_program_laws.specs.Ways.{Way, Lands, MayFlow, MayLand}
+use Rattle.par_program_laws.specs.Facts.{Fact, Facts}
+use Rattle.par_program_laws.specs.Declares.{Declares}
+use Rattle.par_program_laws.specs.Rules.{Node, node, Rules, Done, Part, Test, Heads, Leaves, Worths}
+use Rattle.par_program_laws.specs.Rules.{spot}
+use Rattle.par_program_laws.specs.Rules.{Restores, MayLeave, Obeys, ObeysAll, MayHead, way}
+use Rattle.par_program_laws.specs.Body.{sta}
+use Rattle.par_program_laws.specs.Closed.{IsClosed, first}
 
 module _ (P : Lattice) (top : P.Policy) (below : (p : P.Policy) → P.IsBelow p top) where
   abbrev highest : Way P

@@ -2,12 +2,12 @@
 use Rattle.std.proofs.Common.{◌≤◌, subst}
 use Rattle.par_refusals.specs.declared.refusal.Refusal.{Refusal}
 use Rattle.par_typed.specs.declared.table.Table.{Table}
-use Rattle.par_flow_laws.specs.Declares.{declares}
+use Rattle.par_program_laws.specs.Declares.{declares}
 use Rattle.par_check_laws.specs.Verdict.{Fails}
 use Rattle.par_check.specs.Judged.{IsFirstBroken}
 use Rattle.par_typing.specs.Typed.{written}
 use Rattle.par_observer.specs.Trees.{bodies_of}
-use Rattle.par_check_span_laws.proofs.Law.{checks_lie}
+use Rattle.par_observer.proofs.SpanLaw.{checks_lie}
 use Rattle.par_observer.proofs.Highest.{lowest_told, told_are_closed}
 use Rattle.std.proofs.Common.{ℕ, List, [], ◌∷◌}
 use Rattle.std.specs.List.{AllByRecursion}

@@ -14,7 +14,7 @@ use Rattle.par_tree.specs.Plain.{Source}
 use Rattle.par_parser.specs.Sentence as syntax
 use Rattle.par_span_laws.specs.Within.{IsWithin}
 use Rattle.par_span_laws.proofs.Trees.{trees_lie}
-use Rattle.par_check_span_laws.proofs.Law.{checks_lie}
+use Rattle.par_observer.proofs.SpanLaw.{checks_lie}
 use Rattle.par_typed.specs.declared.table.ClassInfo.{ClassInfo}
 use Rattle.par_typed.specs.declared.table.Table.{Table}
 use Rattle.par_typed.specs.declared.program.Typed.{Typed}
@@ -26,7 +26,7 @@ use Rattle.par_typing.specs.Typed.{written}
 use Rattle.par_table.proofs.par_faults.Within.{limits_kept}
 use Rattle.par_typing.proofs.Tables.{few_table}
 use Rattle.par_secure_laws.specs.par_typed_laws.WellTyped.{IsWellTyped}
-use Rattle.par_table_laws.specs.Declared.{HasFewFields, IsWellDeclared}
+use Rattle.par_program_laws.specs.WellDeclared.{HasFewFields, IsWellDeclared}
 use Rattle.par_check_laws.specs.Asked.{Check}
 use Rattle.par_check_laws.specs.Checks.{checks}
 use Rattle.par_observer.specs.declared.error.JudgeError.{JudgeError}

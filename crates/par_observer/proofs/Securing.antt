@@ -2,8 +2,8 @@
 use Rattle.std.proofs.Common.{List, Result, Ok, Err}
 use Rattle.std.specs.Result.{IfOk}
 use Rattle.par_typed.specs.declared.program.Typed.{Typed}
-use Rattle.par_flow_laws.specs.Lattice.{numbers}
-use Rattle.par_flow_laws.specs.Facts.{Facts}
+use Rattle.par_program_laws.specs.Lattice.{numbers}
+use Rattle.par_program_laws.specs.Facts.{Facts}
 use Rattle.par_check_laws.specs.Accepted.{IsAcceptedBy}
 use Rattle.par_secrecy.specs.Secure.{Secure}
 use Rattle.par_alike.specs.Subject.{subject}

@@ -1,3 +1,5 @@
+pub mod Spans
+pub mod SpanLaw
 pub mod Passes
 pub mod Trees
 pub mod Judgements

@@ -8,18 +8,18 @@ use Rattle.par_refusals.specs.First.{IsFirst}
 use Rattle.par_typed.specs.Shown.{bodies}
 use Rattle.par_resolved.specs.Resolved.{table_of}
 use Rattle.par_table.specs.par_faults.Faults.{all_faults}
-use Rattle.par_check_span_laws.specs.par_annotation_laws.Bodies.{typed_program}
+use Rattle.par_type_rules.specs.TypedBodies.{typed_program}
 use Rattle.par_typed.specs.Plain.{Body}
 use Rattle.par_typing.specs.Typed.{IsTyped, written}
 use Rattle.par_secure_laws.specs.par_typed_laws.WellTyped.{IsWellTyped}
-use Rattle.par_table_laws.specs.Births.{AreFieldsWritten}
-use Rattle.par_table_laws.specs.Declared.{HasFewFields, IsWellDeclared}
+use Rattle.par_program_laws.specs.Births.{AreFieldsWritten}
+use Rattle.par_program_laws.specs.WellDeclared.{HasFewFields, IsWellDeclared}
 use Rattle.par_check_laws.specs.Asked.{Check}
 use Rattle.par_check_laws.specs.Checks.{checks}
 use Rattle.par_check_laws.specs.Verdict.{IsAccepted}
-use Rattle.par_flow_laws.specs.Lattice.{numbers}
-use Rattle.par_flow_laws.specs.Facts.{Facts}
-use Rattle.par_flow_laws.specs.Orderly.{IsOrderlyBody}
+use Rattle.par_program_laws.specs.Lattice.{numbers}
+use Rattle.par_program_laws.specs.Facts.{Facts}
+use Rattle.par_program_laws.specs.Orderly.{IsOrderlyBody}
 use Rattle.par_check_laws.specs.Accepted.{IsAcceptedBy, MOST_BODIES}
 use Rattle.par_check.specs.Judged.{IsFirstBroken}
 use Rattle.par_observer.specs.declared.error.JudgeError.{JudgeError}

@@ -15,8 +15,8 @@ ghost use Rattle.par_observer.specs.Judgements.{IsAcceptedAs, IsReadAs, IsTypedA
 ghost use Rattle.par_observer.specs.Judgements.{IsStoppedAs};
 ghost use Rattle.par_typed.specs.Shown.{bodies};
 ghost use Rattle.par_secure_laws.specs.par_typed_laws.WellTyped.{IsWellTyped};
-ghost use Rattle.par_table_laws.specs.Declared.{IsWellDeclared};
-ghost use Rattle.par_flow_laws.specs.Orderly.{IsOrderlyBody};
+ghost use Rattle.par_program_laws.specs.WellDeclared.{IsWellDeclared};
+ghost use Rattle.par_program_laws.specs.Orderly.{IsOrderlyBody};
 ghost use Rattle.par_check_laws.specs.Accepted.{IsAcceptedBy, MOST_BODIES};
 ghost use Rattle.par_check.specs.Judged.{IsVerdict};
 ghost use Rattle.par_observer.specs.Trees.{IsAcceptedTreeAs, IsTreeRefused, IsTypedTree};

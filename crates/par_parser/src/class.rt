@@ -3,7 +3,7 @@
 ghost use Rattle.std.specs.Prelude.{◌≡◌, ◌<◌, [], ◌∷◌, length, OnOk};
 ghost use Rattle.par_grammar.specs.Grammar as symbol;
 ghost use Rattle.par_grammar.specs.declared.sort.Sort.TheVariants as sort;
-ghost use Rattle.par_stmts.specs.par_language_laws.Reads.{Reads};
+ghost use Rattle.par_stmts.specs.par_reader.SourceLanguage.{Reads};
 ghost use Rattle.par_lexer.specs.declared.sign.TheConstants as signs;
 ghost use Rattle.par_lexer.specs.declared.word.TheConstants as words;
 ghost use Rattle.par_stmts.specs.par_reader.Reads.{IsOf, input};
@@ -16,11 +16,11 @@ use par_grammar::sort::Sort;
 use par_lexer::list::List;
 use par_lexer::token::Token;
 use par_lexer::{sign, word};
-use par_stmts::par_language_laws::Paragon;
 use par_stmts::par_policy_reader::ident::ident;
 use par_stmts::par_policy_reader::policy::may_policy;
 use par_stmts::par_reader::cursor::Cursor;
 use par_stmts::par_reader::error::ParseError;
+use par_stmts::par_reader::source_language::Paragon;
 use par_tree::decl::{ClassDecl, Decl};
 use std::alloc::Global;
 

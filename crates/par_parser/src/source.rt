@@ -2,7 +2,7 @@
 
 ghost use Rattle.std.specs.Prelude.{◌≡◌, ◌≢◌, ◌≤◌, [], ◌∷◌, length, IfOk, IfErr};
 ghost use Rattle.par_grammar.specs.Grammar as symbol;
-ghost use Rattle.par_stmts.specs.par_language_laws.Reads.{Reads};
+ghost use Rattle.par_stmts.specs.par_reader.SourceLanguage.{Reads};
 ghost use Rattle.par_stmts.specs.par_reader.declared.error.ParseError.TheVariants.{Memory};
 ghost use Rattle.par_stmts.specs.par_reader.declared.limit.TheConstants as limit;
 ghost use Rattle.par_stmts.specs.par_reader.Reads.{fault_of, input};
@@ -15,9 +15,9 @@ ghost use Rattle.par_parser.specs.Sentence.{HasFault, HasTree};
 
 use crate::decl::decls;
 use par_lexer::token::Token;
-use par_stmts::par_language_laws::Paragon;
 use par_stmts::par_reader::cursor::Cursor;
 use par_stmts::par_reader::error::ParseError;
+use par_stmts::par_reader::source_language::Paragon;
 use par_tree::decl::Program;
 use std::alloc::Global;
 use std::marker::PhantomData;

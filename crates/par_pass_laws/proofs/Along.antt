@@ -8,25 +8,27 @@ use Rattle.par_except.specs.par_policy.declared.clauses.Clause.{Clause}
 use Rattle.par_except.specs.par_policy.Sees.{sees}
 use Rattle.par_bits.specs.Sets.{Set, IsWithin, none, adding, union}
 use Rattle.par_except.specs.par_typed.Plain.{Body, point}
-use Rattle.par_except.specs.par_flow_laws.Lattice.{Lattice, numbers, policies, seen_by, joined}
-use Rattle.par_except.specs.par_flow_laws.Kinds as kind
-use Rattle.par_except.specs.par_flow_laws.Kinds.{Kind, Normal, normal}
-use Rattle.par_except.specs.par_flow_laws.Ways as rules
-use Rattle.par_except.specs.par_flow_laws.Ways.{Flows, Lands, MayFlow, MayLand, MayRaise, raised}
-use Rattle.par_except.specs.par_flow_laws.Ways.{assigned, opened}
-use Rattle.par_except.specs.par_flow_laws.Ways.{shut, moved}
-use Rattle.par_except.specs.par_flow_laws.Facts.{Fact, Facts}
-use Rattle.par_except.specs.par_flow_laws.Declares.{Declares}
-use Rattle.par_except.specs.par_flow_laws.Rules.{From, Entry, After, Tested, Raised, Opened, Shut}
-use Rattle.par_except.specs.par_flow_laws.Rules.{Assigned}
-use Rattle.par_except.specs.par_flow_laws.Rules.{Worth, Given, Held, Value}
-use Rattle.par_except.specs.par_flow_laws.Rules.{Node, node, Rules, Done, Part, Test, Heads, Leaves}
-use Rattle.par_except.specs.par_flow_laws.Rules.{Worths, spot}
-use Rattle.par_except.specs.par_flow_laws.Rules.{way, worth, held, part_at, Holds, WhereReached}
-use Rattle.par_except.specs.par_flow_laws.Rules.{MayLeave, MayHead}
-use Rattle.par_except.specs.par_flow_laws.Rules.{Restores, Obeys, ObeysAll}
-use Rattle.par_except.specs.par_flow_laws.Body.{sta}
-use Rattle.par_except.specs.par_flow_laws.Closed.{IsClosed, first, arriving, locals}
+use Rattle.par_except.specs.par_program_laws.Lattice.{Lattice, numbers, policies, seen_by, joined}
+use Rattle.par_except.specs.par_program_laws.Kinds as kind
+use Rattle.par_except.specs.par_program_laws.Kinds.{Kind, Normal, normal}
+use Rattle.par_except.specs.par_program_laws.Ways as rules
+use Rattle.par_except.specs.par_program_laws.Ways.{Flows, Lands, MayFlow, MayLand, MayRaise, raised}
+use Rattle.par_except.specs.par_program_laws.Ways.{assigned, opened}
+use Rattle.par_except.specs.par_program_laws.Ways.{shut, moved}
+use Rattle.par_except.specs.par_program_laws.Facts.{Fact, Facts}
+use Rattle.par_except.specs.par_program_laws.Declares.{Declares}
+use Rattle.par_except.specs.par_program_laws.Rules.{From, Entry, After, Tested, Raised, Opened}
+use Rattle.par_except.specs.par_program_laws.Rules.{Shut}
+use Rattle.par_except.specs.par_program_laws.Rules.{Assigned}
+use Rattle.par_except.specs.par_program_laws.Rules.{Worth, Given, Held, Value}
+use Rattle.par_except.specs.par_program_laws.Rules.{Node, node, Rules, Done, Part, Test, Heads}
+use Rattle.par_except.specs.par_program_laws.Rules.{Leaves}
+use Rattle.par_except.specs.par_program_laws.Rules.{Worths, spot}
+use Rattle.par_except.specs.par_program_laws.Rules.{way, worth, held, part_at, Holds, WhereReached}
+use Rattle.par_except.specs.par_program_laws.Rules.{MayLeave, MayHead}
+use Rattle.par_except.specs.par_program_laws.Rules.{Restores, Obeys, ObeysAll}
+use Rattle.par_except.specs.par_program_laws.Body.{sta}
+use Rattle.par_except.specs.par_program_laws.Closed.{IsClosed, first, arriving, locals}
 use Rattle.par_pass_laws.specs.Exits.{Way}
 use Rattle.par_pass_laws.proofs.Order.{sub_refl, sub_trans, union_l, union_r, union_mono}
 use Rattle.par_pass_laws.proofs.Order.{minus_mono}

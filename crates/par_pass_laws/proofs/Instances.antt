@@ -4,8 +4,8 @@ use Rattle.std.specs.Prelude.{IsTrue, slice_get}
 use Rattle.std.proofs.lemmas.Bool.{eqb-true}
 use Rattle.par_except.specs.par_policy.declared.clauses.Clause.{Clause}
 use Rattle.par_bits.specs.Sets.{Set, IsWithin, none, union, adding}
-use Rattle.par_except.specs.par_flow_laws.Lattice.{Seen, seen_by, IsSeenBelow, numbers, policies}
-use Rattle.par_except.specs.par_flow_laws.Lattice.{unseen}
+use Rattle.par_except.specs.par_program_laws.Lattice.{Seen, seen_by, IsSeenBelow, numbers, policies}
+use Rattle.par_except.specs.par_program_laws.Lattice.{unseen}
 use Rattle.par_pass_laws.specs.Low.{Stands}
 use Rattle.par_pass_laws.specs.Seens.{given_of, seen_as}
 use Rattle.par_pass_laws.proofs.Order.{sub_trans, union_l, union_r, union_least, sub_refl}

@@ -1,15 +1,17 @@
 -- What a pass finds is below all closed facts that are above its heads.
 use Rattle.std.proofs.Common.{◌≡◌, ℕ, Bool, false, Option, Some, None, List, [], ◌∷◌, ◌++◌}
-use Rattle.par_except.specs.par_flow_laws.Lattice.{Lattice, numbers}
-use Rattle.par_except.specs.par_flow_laws.Kinds as kind
-use Rattle.par_except.specs.par_flow_laws.Kinds.{Kind, normal, absorbed}
-use Rattle.par_except.specs.par_flow_laws.Ways as rules
-use Rattle.par_except.specs.par_flow_laws.Facts.{Fact, Facts}
-use Rattle.par_except.specs.par_flow_laws.Rules.{Node, node, Rules, Done, Part, Test, Heads, Leaves}
-use Rattle.par_except.specs.par_flow_laws.Rules.{Worths}
-use Rattle.par_except.specs.par_flow_laws.Rules.{spot, way, worth, WhereReached, MayLeave, MayHead}
-use Rattle.par_except.specs.par_flow_laws.Rules.{Restores}
-use Rattle.par_except.specs.par_flow_laws.Rules.{Obeys, ObeysAll}
+use Rattle.par_except.specs.par_program_laws.Lattice.{Lattice, numbers}
+use Rattle.par_except.specs.par_program_laws.Kinds as kind
+use Rattle.par_except.specs.par_program_laws.Kinds.{Kind, normal, absorbed}
+use Rattle.par_except.specs.par_program_laws.Ways as rules
+use Rattle.par_except.specs.par_program_laws.Facts.{Fact, Facts}
+use Rattle.par_except.specs.par_program_laws.Rules.{Node, node, Rules, Done, Part, Test, Heads}
+use Rattle.par_except.specs.par_program_laws.Rules.{Leaves}
+use Rattle.par_except.specs.par_program_laws.Rules.{Worths}
+use Rattle.par_except.specs.par_program_laws.Rules.{spot, way, worth, WhereReached, MayLeave}
+use Rattle.par_except.specs.par_program_laws.Rules.{MayHead}
+use Rattle.par_except.specs.par_program_laws.Rules.{Restores}
+use Rattle.par_except.specs.par_program_laws.Rules.{Obeys, ObeysAll}
 use Rattle.par_pass_laws.specs.Exits.{Way, all, leaving, restored, leave}
 use Rattle.par_pass_laws.specs.Pass.{HeadWays, Event, Found, nothing, fact, visited, ended, into}
 use Rattle.par_pass_laws.specs.Pass.{pass}

@@ -2,11 +2,11 @@
 use Rattle.std.proofs.Common.{◌≡◌, Bool, true, false, cond, Option, Some, None, List, [], ◌∷◌, refl}
 use Rattle.std.proofs.Common.{sym, subst}
 use Rattle.par_bits.specs.Sets.{Set, union}
-use Rattle.par_except.specs.par_flow_laws.Lattice.{Lattice}
-use Rattle.par_except.specs.par_flow_laws.Kinds.{Kind, Normal, same, normal}
-use Rattle.par_except.specs.par_flow_laws.Ways as rules
-use Rattle.par_except.specs.par_flow_laws.Ways.{MayRaise}
-use Rattle.par_except.specs.par_flow_laws.Rules.{Holds}
+use Rattle.par_except.specs.par_program_laws.Lattice.{Lattice}
+use Rattle.par_except.specs.par_program_laws.Kinds.{Kind, Normal, same, normal}
+use Rattle.par_except.specs.par_program_laws.Ways as rules
+use Rattle.par_except.specs.par_program_laws.Ways.{MayRaise}
+use Rattle.par_except.specs.par_program_laws.Rules.{Holds}
 use Rattle.par_except.specs.Joins.{join}
 use Rattle.par_pass_laws.specs.Exits.{Way, Exit, at, add, all, leaving, contexts, with_context}
 use Rattle.par_pass_laws.specs.Exits.{restored}

@@ -4,9 +4,10 @@ use Rattle.std.specs.Prelude.{IsTrue}
 use Rattle.std.proofs.lemmas.Bool.{eqb-true}
 use Rattle.std.proofs.Common.{eq-eqb}
 use Rattle.par_bits.specs.Sets.{Set, IsWithin, union, meet, minus}
-use Rattle.par_except.specs.par_flow_laws.Lattice.{numbers}
-use Rattle.par_except.specs.par_flow_laws.Kinds.{Kind, Normal, Return, Break, Continue, Throw, same}
-use Rattle.par_except.specs.par_flow_laws.Ways.{Lands, Flows, MayFlow, MayLand}
+use Rattle.par_except.specs.par_program_laws.Lattice.{numbers}
+use Rattle.par_except.specs.par_program_laws.Kinds.{Kind, Normal, Return, Break, Continue, Throw}
+use Rattle.par_except.specs.par_program_laws.Kinds.{same}
+use Rattle.par_except.specs.par_program_laws.Ways.{Lands, Flows, MayFlow, MayLand}
 use Rattle.par_except.specs.Joins.{join}
 use Rattle.par_pass_laws.specs.Exits.{Way}
 

@@ -1,11 +1,12 @@
 -- A pass over a numbered body notes each point once at most.
 use Rattle.std.proofs.Common.{◌≡◌, ℕ, suc, ◌<◌, ◌≤◌, Option, Some, None, List, [], ◌∷◌, ◌++◌, arith}
-use Rattle.par_except.specs.par_flow_laws.Lattice.{numbers}
-use Rattle.par_except.specs.par_flow_laws.Facts.{Fact}
-use Rattle.par_except.specs.par_flow_laws.Rules.{Node, node, Rules, Done, Part, Test, Heads, Leaves}
-use Rattle.par_except.specs.par_flow_laws.Rules.{Worths, spot}
-use Rattle.par_except.specs.par_flow_laws.Rules.{way}
-use Rattle.par_except.specs.par_flow_laws.Numbered.{next, next_by, IsNumbered, AreNumbered}
+use Rattle.par_except.specs.par_program_laws.Lattice.{numbers}
+use Rattle.par_except.specs.par_program_laws.Facts.{Fact}
+use Rattle.par_except.specs.par_program_laws.Rules.{Node, node, Rules, Done, Part, Test, Heads}
+use Rattle.par_except.specs.par_program_laws.Rules.{Leaves}
+use Rattle.par_except.specs.par_program_laws.Rules.{Worths, spot}
+use Rattle.par_except.specs.par_program_laws.Rules.{way}
+use Rattle.par_except.specs.par_program_laws.Numbered.{next, next_by, IsNumbered, AreNumbered}
 use Rattle.par_pass_laws.specs.Exits.{Way}
 use Rattle.par_pass_laws.specs.Pass.{HeadWays, Event, Row, Into, Found, nothing, fact, visited}
 use Rattle.par_pass_laws.specs.Pass.{into}

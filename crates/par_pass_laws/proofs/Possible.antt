@@ -4,16 +4,18 @@ use Rattle.std.proofs.Common.{◌⊎◌, inl, inr, ⊎_elim}
 use Rattle.std.proofs.Common.{Option, Some, None, List, [], ◌∷◌, ◌++◌, refl, ap, sym, ◌∙◌, subst}
 use Rattle.std.proofs.lemmas.Bool.{or_parts, not-false}
 use Rattle.par_bits.specs.Sets.{Set}
-use Rattle.par_except.specs.par_flow_laws.Lattice.{Lattice, numbers}
-use Rattle.par_except.specs.par_flow_laws.Kinds.{Kind, Normal, same, normal, absorbed}
-use Rattle.par_except.specs.par_flow_laws.Ways.{moved}
-use Rattle.par_except.specs.par_flow_laws.Facts.{Fact, Facts}
-use Rattle.par_except.specs.par_flow_laws.Rules.{From, Entry, After, Tested, Raised, Opened, Shut}
-use Rattle.par_except.specs.par_flow_laws.Rules.{Assigned}
-use Rattle.par_except.specs.par_flow_laws.Rules.{Node, node, Rules, Done, Part, Test, Heads, Leaves}
-use Rattle.par_except.specs.par_flow_laws.Rules.{Worths, spot}
-use Rattle.par_except.specs.par_flow_laws.Rules.{way, part_at, part_can, comes, can, can_by}
-use Rattle.par_except.specs.par_flow_laws.Rules.{WhereReached}
+use Rattle.par_except.specs.par_program_laws.Lattice.{Lattice, numbers}
+use Rattle.par_except.specs.par_program_laws.Kinds.{Kind, Normal, same, normal, absorbed}
+use Rattle.par_except.specs.par_program_laws.Ways.{moved}
+use Rattle.par_except.specs.par_program_laws.Facts.{Fact, Facts}
+use Rattle.par_except.specs.par_program_laws.Rules.{From, Entry, After, Tested, Raised, Opened}
+use Rattle.par_except.specs.par_program_laws.Rules.{Shut}
+use Rattle.par_except.specs.par_program_laws.Rules.{Assigned}
+use Rattle.par_except.specs.par_program_laws.Rules.{Node, node, Rules, Done, Part, Test, Heads}
+use Rattle.par_except.specs.par_program_laws.Rules.{Leaves}
+use Rattle.par_except.specs.par_program_laws.Rules.{Worths, spot}
+use Rattle.par_except.specs.par_program_laws.Rules.{way, part_at, part_can, comes, can, can_by}
+use Rattle.par_except.specs.par_program_laws.Rules.{WhereReached}
 use Rattle.par_except.specs.Joins.{join}
 use Rattle.par_pass_laws.specs.Exits.{Way, Exit, at, add, all, leaving, set_context, with_context}
 use Rattle.par_pass_laws.specs.Exits.{leave}

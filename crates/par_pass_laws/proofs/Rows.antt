@@ -12,11 +12,11 @@ use Rattle.par_except.specs.par_typed.Plain as plain
 use Rattle.par_except.specs.par_typed.Plain.{TSta, Block, If, Try, Throw, Open, SetLocal, Eval}
 use Rattle.par_except.specs.par_typed.Plain.{When, NoElse}
 use Rattle.par_except.specs.par_typed.Plain.{Otherwise, End, Then, NoCatch, Catch}
-use Rattle.par_except.specs.par_flow_laws.Lattice.{numbers}
-use Rattle.par_except.specs.par_flow_laws.Declares.{Declares, Method, NO_METHOD}
-use Rattle.par_except.specs.par_flow_laws.Rules.{way, worth, can, can_by, comes}
-use Rattle.par_except.specs.par_flow_laws.Body.{exp, args, sta, stas, catches}
-use Rattle.par_except.specs.par_flow_laws.Closed.{first}
+use Rattle.par_except.specs.par_program_laws.Lattice.{numbers}
+use Rattle.par_except.specs.par_program_laws.Declares.{Declares, Method, NO_METHOD}
+use Rattle.par_except.specs.par_program_laws.Rules.{way, worth, can, can_by, comes}
+use Rattle.par_except.specs.par_program_laws.Body.{exp, args, sta, stas, catches}
+use Rattle.par_except.specs.par_program_laws.Closed.{first}
 use Rattle.par_pass_laws.specs.Exits.{Way}
 use Rattle.par_pass_laws.specs.Pass.{pass, pass_all}
 use Rattle.par_pass_laws.specs.Written.{blanks, written, table}

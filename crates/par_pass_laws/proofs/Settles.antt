@@ -2,18 +2,20 @@
 use Rattle.std.proofs.Common.{◌≡◌, ℕ, Bool, true, false, cond, ◌||◌, Option, Some, None, List, []}
 use Rattle.std.proofs.Common.{◌∷◌, ◌++◌, refl, sym, ap, subst}
 use Rattle.par_bits.specs.Sets.{IsWithin, union}
-use Rattle.par_except.specs.par_flow_laws.Lattice.{numbers}
-use Rattle.par_except.specs.par_flow_laws.Kinds as kind
-use Rattle.par_except.specs.par_flow_laws.Kinds.{Kind, Normal, normal, absorbed, Absorber, Next}
-use Rattle.par_except.specs.par_flow_laws.Kinds.{Loop}
-use Rattle.par_except.specs.par_flow_laws.Kinds.{Catches}
-use Rattle.par_except.specs.par_flow_laws.Ways.{MayFlow, MayLand, MayRaise}
-use Rattle.par_except.specs.par_flow_laws.Facts.{Fact, Facts}
-use Rattle.par_except.specs.par_flow_laws.Rules.{Node, node, Rules, Done, Part, Test, Heads, Leaves}
-use Rattle.par_except.specs.par_flow_laws.Rules.{Worths}
-use Rattle.par_except.specs.par_flow_laws.Rules.{spot, way, worth, WhereReached, MayLeave, MayHead}
-use Rattle.par_except.specs.par_flow_laws.Rules.{Holds}
-use Rattle.par_except.specs.par_flow_laws.Rules.{Restores, Passes, Obeys, ObeysAll}
+use Rattle.par_except.specs.par_program_laws.Lattice.{numbers}
+use Rattle.par_except.specs.par_program_laws.Kinds as kind
+use Rattle.par_except.specs.par_program_laws.Kinds.{Kind, Normal, normal, absorbed, Absorber, Next}
+use Rattle.par_except.specs.par_program_laws.Kinds.{Loop}
+use Rattle.par_except.specs.par_program_laws.Kinds.{Catches}
+use Rattle.par_except.specs.par_program_laws.Ways.{MayFlow, MayLand, MayRaise}
+use Rattle.par_except.specs.par_program_laws.Facts.{Fact, Facts}
+use Rattle.par_except.specs.par_program_laws.Rules.{Node, node, Rules, Done, Part, Test, Heads}
+use Rattle.par_except.specs.par_program_laws.Rules.{Leaves}
+use Rattle.par_except.specs.par_program_laws.Rules.{Worths}
+use Rattle.par_except.specs.par_program_laws.Rules.{spot, way, worth, WhereReached, MayLeave}
+use Rattle.par_except.specs.par_program_laws.Rules.{MayHead}
+use Rattle.par_except.specs.par_program_laws.Rules.{Holds}
+use Rattle.par_except.specs.par_program_laws.Rules.{Restores, Passes, Obeys, ObeysAll}
 use Rattle.par_pass_laws.specs.Exits.{Way, Exit, at, all, leaving, leave}
 use Rattle.par_pass_laws.specs.Pass.{HeadWays, Event, Found, nothing, fact, visited, ended, into}
 use Rattle.par_pass_laws.specs.Pass.{pass}

@@ -5,18 +5,18 @@ use Rattle.std.proofs.Common.{inl, inr}
 use Rattle.par_pass_laws.specs.Exits.{Way}
 use Rattle.std.specs.Prelude.{◌⊎◌}
 use Rattle.par_except.specs.par_typed.Plain.{Body, TSta, point}
-use Rattle.par_except.specs.par_flow_laws.Lattice.{Lattice, numbers}
-use Rattle.par_except.specs.par_flow_laws.Ways as rules
+use Rattle.par_except.specs.par_program_laws.Lattice.{Lattice, numbers}
+use Rattle.par_except.specs.par_program_laws.Ways as rules
 use Rattle.par_pass_laws.specs.Result.{IsSettled, AreLeast, AreExact}
 use Rattle.par_pass_laws.proofs.Instances.{among}
 use Rattle.par_except.specs.par_typed.Plain as plain
 use Rattle.par_pass_laws.specs.Low.{MayFlow}
-use Rattle.par_except.specs.par_flow_laws.Facts.{Fact, Facts}
-use Rattle.par_except.specs.par_flow_laws.Declares.{Declares, Method}
-use Rattle.par_except.specs.par_flow_laws.Rules.{spot}
-use Rattle.par_except.specs.par_flow_laws.Body.{sta}
-use Rattle.par_except.specs.par_flow_laws.Closed.{IsClosed, IsThere, first, arriving, locals}
-use Rattle.par_except.specs.par_flow_laws.Numbered.{next, IsNumbered}
+use Rattle.par_except.specs.par_program_laws.Facts.{Fact, Facts}
+use Rattle.par_except.specs.par_program_laws.Declares.{Declares, Method}
+use Rattle.par_except.specs.par_program_laws.Rules.{spot}
+use Rattle.par_except.specs.par_program_laws.Body.{sta}
+use Rattle.par_except.specs.par_program_laws.Closed.{IsClosed, IsThere, first, arriving, locals}
+use Rattle.par_except.specs.par_program_laws.Numbered.{next, IsNumbered}
 use Rattle.par_pass_laws.specs.Pass.{HeadWays, Event, Row, Into, pass}
 use Rattle.par_pass_laws.specs.Low.{Stands, IsLow, AreLow, AreHeadsLow}
 use Rattle.par_pass_laws.specs.Settled.{AllSay}

@@ -3,14 +3,15 @@ use Rattle.std.proofs.Common.{ℕ, zero, suc, Bool, true, false, cond, Option, S
 use Rattle.std.proofs.Common.{◌∷◌}
 use Rattle.std.specs.Prelude.{nat_eq}
 use Rattle.par_bits.specs.Sets.{Set}
-use Rattle.par_except.specs.par_flow_laws.Lattice.{Lattice, numbers}
-use Rattle.par_except.specs.par_flow_laws.Ways as rules
-use Rattle.par_except.specs.par_flow_laws.Ways.{raised, assigned, opened, shut, moved}
-use Rattle.par_except.specs.par_flow_laws.Facts.{Fact, blank}
-use Rattle.par_except.specs.par_flow_laws.Rules.{From, Entry, After, Tested, Raised, Opened, Shut}
-use Rattle.par_except.specs.par_flow_laws.Rules.{Assigned}
-use Rattle.par_except.specs.par_flow_laws.Rules.{Worth, Given, Held, Value, way, worth, held}
-use Rattle.par_except.specs.par_flow_laws.Rules.{part_at}
+use Rattle.par_except.specs.par_program_laws.Lattice.{Lattice, numbers}
+use Rattle.par_except.specs.par_program_laws.Ways as rules
+use Rattle.par_except.specs.par_program_laws.Ways.{raised, assigned, opened, shut, moved}
+use Rattle.par_except.specs.par_program_laws.Facts.{Fact, blank}
+use Rattle.par_except.specs.par_program_laws.Rules.{From, Entry, After, Tested, Raised, Opened}
+use Rattle.par_except.specs.par_program_laws.Rules.{Shut}
+use Rattle.par_except.specs.par_program_laws.Rules.{Assigned}
+use Rattle.par_except.specs.par_program_laws.Rules.{Worth, Given, Held, Value, way, worth, held}
+use Rattle.par_except.specs.par_program_laws.Rules.{part_at}
 use Rattle.par_except.specs.Joins.{join}
 use Rattle.par_pass_laws.specs.Exits.{Way}
 use Rattle.par_pass_laws.specs.Low.{Stands, LandsUnder, FlowsUnder, MayLand, MayFlow, IsLow}

@@ -2,10 +2,10 @@
 use Rattle.std.proofs.Common.{◌≡◌, Bool, true, false, cond, Option, Some, None, List, [], ◌∷◌, refl}
 use Rattle.std.proofs.Common.{sym, ap, ◌∙◌, subst}
 use Rattle.par_bits.specs.Sets.{Set, IsWithin, union}
-use Rattle.par_except.specs.par_flow_laws.Lattice.{numbers}
-use Rattle.par_except.specs.par_flow_laws.Kinds.{Kind, Normal, same, normal}
-use Rattle.par_except.specs.par_flow_laws.Ways.{MayFlow, MayLand, MayRaise}
-use Rattle.par_except.specs.par_flow_laws.Rules.{Holds}
+use Rattle.par_except.specs.par_program_laws.Lattice.{numbers}
+use Rattle.par_except.specs.par_program_laws.Kinds.{Kind, Normal, same, normal}
+use Rattle.par_except.specs.par_program_laws.Ways.{MayFlow, MayLand, MayRaise}
+use Rattle.par_except.specs.par_program_laws.Rules.{Holds}
 use Rattle.par_except.specs.Joins.{join}
 use Rattle.par_pass_laws.specs.Exits.{Way, Exit, at, add, all, leaving, contexts, with_context}
 use Rattle.par_pass_laws.specs.Exits.{restored}

@@ -1,9 +1,9 @@
 -- Exits as a pass makes them: a list with one way a kind.
 use Rattle.std.specs.Prelude.{Bool, cond, Option, Some, None, List, [], ◌∷◌}
 use Rattle.par_bits.specs.Sets.{Set, union}
-use Rattle.par_except.specs.par_flow_laws.Lattice.{numbers}
-use Rattle.par_except.specs.par_flow_laws.Kinds.{Kind, Normal, same}
-use Rattle.par_except.specs.par_flow_laws.Ways as rules
+use Rattle.par_except.specs.par_program_laws.Lattice.{numbers}
+use Rattle.par_except.specs.par_program_laws.Kinds.{Kind, Normal, same}
+use Rattle.par_except.specs.par_program_laws.Ways as rules
 use Rattle.par_except.specs.Joins.{join}
 
 abbrev pub Way : Type 0

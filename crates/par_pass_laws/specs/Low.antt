@@ -1,10 +1,10 @@
 -- What is found, below facts over any lattice of policies.
 use Rattle.std.specs.Prelude.{ℕ, Option, Some, None, List, [], ◌∷◌}
 use Rattle.par_bits.specs.Sets.{Set, none, adding, union, IsWithin}
-use Rattle.par_except.specs.par_flow_laws.Lattice.{Lattice, numbers}
-use Rattle.par_except.specs.par_flow_laws.Kinds.{Kind}
-use Rattle.par_except.specs.par_flow_laws.Ways as rules
-use Rattle.par_except.specs.par_flow_laws.Facts.{Fact, Facts}
+use Rattle.par_except.specs.par_program_laws.Lattice.{Lattice, numbers}
+use Rattle.par_except.specs.par_program_laws.Kinds.{Kind}
+use Rattle.par_except.specs.par_program_laws.Ways as rules
+use Rattle.par_except.specs.par_program_laws.Facts.{Fact, Facts}
 use Rattle.par_pass_laws.specs.Exits.{Way}
 use Rattle.par_pass_laws.specs.Pass.{HeadWays, Event, Row, Into}
 

@@ -1,12 +1,13 @@
 -- What one pass over the rules of a body finds, from a way and the heads of loops.
 use Rattle.std.specs.Prelude.{ℕ, Option, Some, None, List, [], ◌∷◌, ◌++◌}
 use Rattle.par_bits.specs.Sets.{Set, none, union}
-use Rattle.par_except.specs.par_flow_laws.Lattice.{numbers}
-use Rattle.par_except.specs.par_flow_laws.Kinds.{normal, absorbed}
-use Rattle.par_except.specs.par_flow_laws.Facts.{Fact, blank}
-use Rattle.par_except.specs.par_flow_laws.Rules.{Node, node, Rules, Done, Part, Test, Heads, Leaves}
-use Rattle.par_except.specs.par_flow_laws.Rules.{Worths}
-use Rattle.par_except.specs.par_flow_laws.Rules.{spot, way, worth}
+use Rattle.par_except.specs.par_program_laws.Lattice.{numbers}
+use Rattle.par_except.specs.par_program_laws.Kinds.{normal, absorbed}
+use Rattle.par_except.specs.par_program_laws.Facts.{Fact, blank}
+use Rattle.par_except.specs.par_program_laws.Rules.{Node, node, Rules, Done, Part, Test, Heads}
+use Rattle.par_except.specs.par_program_laws.Rules.{Leaves}
+use Rattle.par_except.specs.par_program_laws.Rules.{Worths}
+use Rattle.par_except.specs.par_program_laws.Rules.{spot, way, worth}
 use Rattle.par_pass_laws.specs.Exits.{Way, Exit, at, all, leaving, restored, leave}
 
 -- the head ways of loops, at the points of their tests

@@ -1,11 +1,12 @@
 -- Facts with exits for possible completions alone.
 use Rattle.std.specs.Prelude.{◌≡◌, false, None}
-use Rattle.par_except.specs.par_flow_laws.Lattice.{Lattice}
-use Rattle.par_except.specs.par_flow_laws.Kinds.{Kind}
-use Rattle.par_except.specs.par_flow_laws.Facts.{Facts}
-use Rattle.par_except.specs.par_flow_laws.Rules.{Node, node, Rules, Done, Part, Test, Heads, Leaves}
-use Rattle.par_except.specs.par_flow_laws.Rules.{Worths, spot}
-use Rattle.par_except.specs.par_flow_laws.Rules.{can, WhereReached}
+use Rattle.par_except.specs.par_program_laws.Lattice.{Lattice}
+use Rattle.par_except.specs.par_program_laws.Kinds.{Kind}
+use Rattle.par_except.specs.par_program_laws.Facts.{Facts}
+use Rattle.par_except.specs.par_program_laws.Rules.{Node, node, Rules, Done, Part, Test, Heads}
+use Rattle.par_except.specs.par_program_laws.Rules.{Leaves}
+use Rattle.par_except.specs.par_program_laws.Rules.{Worths, spot}
+use Rattle.par_except.specs.par_program_laws.Rules.{can, WhereReached}
 
 module _ (P : Lattice) (a : Facts P) where
   unfoldable mutual

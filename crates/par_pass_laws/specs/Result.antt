@@ -1,12 +1,13 @@
 -- What the rounds leave: the facts of a pass that raises no head, over heads that are low.
 use Rattle.std.specs.Prelude.{◌≡◌, ◌↔◌, ℕ, List}
 use Rattle.par_except.specs.par_typed.Plain.{Body}
-use Rattle.par_except.specs.par_flow_laws.Lattice.{Lattice, numbers}
-use Rattle.par_except.specs.par_flow_laws.Kinds.{Kind}
-use Rattle.par_except.specs.par_flow_laws.Facts.{Fact, Facts}
-use Rattle.par_except.specs.par_flow_laws.Declares.{Declares}
-use Rattle.par_except.specs.par_flow_laws.Body.{sta}
-use Rattle.par_except.specs.par_flow_laws.Closed.{IsClosed, IsThere, IsReached, IsPossible, first}
+use Rattle.par_except.specs.par_program_laws.Lattice.{Lattice, numbers}
+use Rattle.par_except.specs.par_program_laws.Kinds.{Kind}
+use Rattle.par_except.specs.par_program_laws.Facts.{Fact, Facts}
+use Rattle.par_except.specs.par_program_laws.Declares.{Declares}
+use Rattle.par_except.specs.par_program_laws.Body.{sta}
+use Rattle.par_except.specs.par_program_laws.Closed.{IsClosed, IsThere, IsReached, IsPossible}
+use Rattle.par_except.specs.par_program_laws.Closed.{first}
 use Rattle.par_pass_laws.specs.Low.{Stands, IsLow}
 use Rattle.par_pass_laws.specs.Pass.{HeadWays, pass}
 use Rattle.par_pass_laws.specs.Written.{blanks, written, AllFit}

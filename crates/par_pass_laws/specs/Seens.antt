@@ -3,7 +3,7 @@ use Rattle.std.specs.Prelude.{ℕ, zero, suc, true, ◌&&◌, ◌||◌, not, Lis
 use Rattle.par_except.specs.par_policy.declared.clauses.Clause.{Clause}
 use Rattle.par_except.specs.par_policy.Sees.{sees}
 use Rattle.par_bits.specs.Sets.{Set}
-use Rattle.par_except.specs.par_flow_laws.Lattice.{Lattice, Seen, IsSeenBelow}
+use Rattle.par_except.specs.par_program_laws.Lattice.{Lattice, Seen, IsSeenBelow}
 
 -- the policy of a number; what is no policy of the list all see
 abbrev pub given_of : List Seen → ℕ → Seen

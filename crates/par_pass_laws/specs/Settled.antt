@@ -1,8 +1,8 @@
 -- Facts that hold what a pass finds, where no head is raised.
 use Rattle.std.specs.Prelude.{◌≡◌, List, [], ◌∷◌}
-use Rattle.par_except.specs.par_flow_laws.Lattice.{numbers}
-use Rattle.par_except.specs.par_flow_laws.Ways.{MayFlow}
-use Rattle.par_except.specs.par_flow_laws.Facts.{Facts}
+use Rattle.par_except.specs.par_program_laws.Lattice.{numbers}
+use Rattle.par_except.specs.par_program_laws.Ways.{MayFlow}
+use Rattle.par_except.specs.par_program_laws.Facts.{Facts}
 use Rattle.par_pass_laws.specs.Pass.{HeadWays, Event, Row, Into}
 
 -- the fact of the point is the noted one, and the way flows into its head as it stands

@@ -1,8 +1,8 @@
 -- What a list of events makes of a table of facts by points.
 use Rattle.std.specs.Prelude.{ℕ, zero, suc, List, [], ◌∷◌, slice_index_or, slice_set}
-use Rattle.par_except.specs.par_flow_laws.Lattice.{numbers}
-use Rattle.par_except.specs.par_flow_laws.Ways.{MayFlow}
-use Rattle.par_except.specs.par_flow_laws.Facts.{Fact, Facts, blank}
+use Rattle.par_except.specs.par_program_laws.Lattice.{numbers}
+use Rattle.par_except.specs.par_program_laws.Ways.{MayFlow}
+use Rattle.par_except.specs.par_program_laws.Facts.{Fact, Facts, blank}
 use Rattle.par_pass_laws.specs.Pass.{HeadWays, Event, Row, Into}
 
 abbrev pub blanks : ℕ → List (Fact numbers)

@@ -17,10 +17,10 @@ use Rattle.par_code_form.specs.declared.item.Item.TheVariants.{Jump, Member}
 use Rattle.par_code_form.specs.declared.item.Item.TheVariants.{ClassOp, LockOp}
 use Rattle.par_code_form.specs.declared.labelled.Handler.{Handler}
 use Rattle.par_code_form.specs.Opcodes.{INVOKEVIRTUAL}
-use Rattle.par_place_laws.specs.Instructions.{within}
-use Rattle.par_place_laws.specs.Named.{full_name, member_form, Names, IsPartOf, IsNamedIn}
-use Rattle.par_place_laws.specs.Named.{IsCaughtIn, LOCKS, LOCK_TYPE, lock_field}
-use Rattle.par_place_laws.specs.Placed.{IsCatch}
+use Rattle.par_code_form.specs.Instructions.{within}
+use Rattle.par_code_form.specs.PoolNames.{full_name, member_form, Names, IsPartOf, IsNamedIn}
+use Rattle.par_code_form.specs.PoolNames.{IsCaughtIn, LOCKS, LOCK_TYPE, lock_field}
+use Rattle.par_code_form.specs.Placed.{IsCatch}
 
 module _ (old new : List Constant) (few : ℕ) (P : Constant → Type 0) (a : Adds old new few P) where
   class-part : (name : List ℕ) (c : Constant) → IsClassPart old name c → IsClassPart new name c

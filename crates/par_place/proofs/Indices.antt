@@ -11,9 +11,9 @@ use Rattle.par_pool.proofs.Growth.{adds_then}
 use Rattle.par_class.specs.declared.file.Catch.{Catch}
 use Rattle.par_code_form.specs.declared.item.Item.{Item}
 use Rattle.par_code_form.specs.declared.labelled.Handler.{Handler}
-use Rattle.par_place_laws.specs.Named.{full_name, entries, Names, IsPartOf, IsNamedIn}
-use Rattle.par_place_laws.specs.Named.{IsCaughtIn}
-use Rattle.par_place_laws.specs.Placed.{IsCatch}
+use Rattle.par_code_form.specs.PoolNames.{full_name, entries, Names, IsPartOf, IsNamedIn}
+use Rattle.par_code_form.specs.PoolNames.{IsCaughtIn}
+use Rattle.par_code_form.specs.Placed.{IsCatch}
 use Rattle.par_place.proofs.Growth.{named_kept, caught_kept, all_names_kept, all_catches_kept}
 
 zip-push : {A B : Type 0} (R : A → B → Type 0) (xs : List A) (ys : List B) (x : A) (y : B)

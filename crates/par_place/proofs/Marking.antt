@@ -10,8 +10,8 @@ use Rattle.par_code_form.specs.declared.item.Item.{Item}
 use Rattle.par_code_form.specs.declared.item.Item.TheVariants.{Label, Op, Const}
 use Rattle.par_code_form.specs.declared.item.Item.TheVariants.{Jump, Member}
 use Rattle.par_code_form.specs.declared.item.Item.TheVariants.{ClassOp, LockOp}
-use Rattle.par_place_laws.specs.Placed.{size, is_label, offset_of}
-use Rattle.par_place_laws.specs.Placeable.{StandsOnce, most_bytes}
+use Rattle.par_code_form.specs.Placed.{size, is_label, offset_of}
+use Rattle.par_code_form.specs.Placeable.{StandsOnce, most_bytes}
 use Rattle.par_place.specs.Offsets.{HasOffsets, Marks}
 use Rattle.par_place.proofs.Sizes.{bit, passed}
 

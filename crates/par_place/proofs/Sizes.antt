@@ -15,11 +15,11 @@ use Rattle.par_code_form.specs.declared.item.Item.TheVariants.{Label, Op, Const}
 use Rattle.par_code_form.specs.declared.item.Item.TheVariants.{Jump, Member}
 use Rattle.par_code_form.specs.declared.item.Item.TheVariants.{ClassOp, LockOp}
 use Rattle.par_code_form.specs.Opcodes.{IFEQ, IF_ICMPEQ, IF_ACMPEQ, IF_ACMPNE, GOTO}
-use Rattle.par_place_laws.specs.Instructions.{IFNULL, push, branch, on_member, instruction}
-use Rattle.par_place_laws.specs.Instructions.{is_instruction}
-use Rattle.par_place_laws.specs.Placed.{bytes_of, size, is_label, offset_of, distance}
-use Rattle.par_place_laws.specs.Placed.{offset_at, instructions}
-use Rattle.par_place_laws.specs.Placeable.{FitsItem, StandsOnce}
+use Rattle.par_code_form.specs.Instructions.{IFNULL, push, branch, on_member, instruction}
+use Rattle.par_code_form.specs.Instructions.{is_instruction}
+use Rattle.par_code_form.specs.Placed.{bytes_of, size, is_label, offset_of, distance}
+use Rattle.par_code_form.specs.Placed.{offset_at, instructions}
+use Rattle.par_code_form.specs.Placeable.{FitsItem, StandsOnce}
 
 long : (a b c d e f : Bool) (n m : ℕ) (to : ℤ)
     → length (spelling (if a then If n to else if b then IfIcmp m to else if c then IfAcmpeq to

@@ -8,9 +8,9 @@ use Rattle.par_instr.specs.declared.instr.Instr.{Instr}
 use Rattle.par_instr.specs.Spelling.{spelling, IsSpelled, Stands}
 use Rattle.par_instr.proofs.Places.{written_again}
 use Rattle.par_code_form.specs.declared.item.Item.{Item}
-use Rattle.par_place_laws.specs.Instructions.{instruction}
-use Rattle.par_place_laws.specs.Placed.{bytes_of, IsWritable, size, offset_of, offset_at, distance}
-use Rattle.par_place_laws.specs.Placed.{instructions}
+use Rattle.par_code_form.specs.Instructions.{instruction}
+use Rattle.par_code_form.specs.Placed.{bytes_of, IsWritable, size, offset_of, offset_at, distance}
+use Rattle.par_code_form.specs.Placed.{instructions}
 use Rattle.par_place.specs.Laws.{PlacedInstructionsStand}
 use Rattle.par_place.proofs.Sizes.{size_any}
 

@@ -7,7 +7,7 @@ use Rattle.std.proofs.lemmas.Bool.{and_from, lt-ltb}
 use Rattle.std.proofs.lemmas.List.Folds.{list_all-append}
 use Rattle.std.proofs.lemmas.Fmt.{decimal_by_steps}
 use Rattle.par_pool.specs.Spelling.{is_plain, IsText}
-use Rattle.par_place_laws.specs.Named.{lock_field}
+use Rattle.par_code_form.specs.PoolNames.{lock_field}
 
 -- a text of few plain bytes
 record IsShort (n : ℕ) (text : List ℕ) : Type 0 where

@@ -24,13 +24,13 @@ use Rattle.par_code_form.specs.declared.item.Item.TheVariants.{Jump, Member}
 use Rattle.par_code_form.specs.declared.item.Item.TheVariants.{ClassOp, LockOp}
 use Rattle.par_code_form.specs.declared.labelled.Handler.{Handler}
 use Rattle.par_code_form.specs.declared.labelled.Labelled.{Labelled}
-use Rattle.par_place_laws.specs.Instructions.{instruction}
-use Rattle.par_place_laws.specs.Named.{full_name, Names, IsNamedIn, IsCaughtIn}
-use Rattle.par_place_laws.specs.Named.{IsConstantOf, entry_count, entries}
-use Rattle.par_place_laws.specs.Placed.{size, offset_of, distance, instructions, IsCatch, bytes_of}
-use Rattle.par_place_laws.specs.Placed.{offset_at, IsWritable, IsPlaced}
-use Rattle.par_place_laws.specs.Placeable.{StandsOnce, FitsItem, HasTarget, FitsHandler}
-use Rattle.par_place_laws.specs.Placeable.{HasInstruction, MOST_BYTES, IsPlaceable}
+use Rattle.par_code_form.specs.Instructions.{instruction}
+use Rattle.par_code_form.specs.PoolNames.{full_name, Names, IsNamedIn, IsCaughtIn}
+use Rattle.par_code_form.specs.PoolNames.{IsConstantOf, entry_count, entries}
+use Rattle.par_code_form.specs.Placed.{size, offset_of, distance, instructions, IsCatch, bytes_of}
+use Rattle.par_code_form.specs.Placed.{offset_at, IsWritable, IsPlaced}
+use Rattle.par_code_form.specs.Placeable.{StandsOnce, FitsItem, HasTarget, FitsHandler}
+use Rattle.par_code_form.specs.Placeable.{HasInstruction, MOST_BYTES, IsPlaceable}
 use Rattle.par_place.specs.Offsets.{HasOffsets, HasOffset, HasLabels, AreSmall}
 use Rattle.par_place.specs.Labels.{IsPlacedAt}
 use Rattle.par_place.proofs.Sizes.{offset_is, upto_le, upto_less, code_length}

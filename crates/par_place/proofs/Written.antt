@@ -19,9 +19,9 @@ use Rattle.par_code_form.specs.declared.item.Item.TheVariants.{ClassOp, LockOp}
 use Rattle.par_code_form.specs.Opcodes.{GETSTATIC, PUTSTATIC, GETFIELD, PUTFIELD}
 use Rattle.par_code_form.specs.Opcodes.{INVOKEVIRTUAL}
 use Rattle.par_code_form.specs.Opcodes.{INVOKESPECIAL}
-use Rattle.par_place_laws.specs.Instructions.{within, instruction}
-use Rattle.par_place_laws.specs.Placed.{bytes_of, IsWritable, size, distance, instructions}
-use Rattle.par_place_laws.specs.Placeable.{most_bytes}
+use Rattle.par_code_form.specs.Instructions.{within, instruction}
+use Rattle.par_code_form.specs.Placed.{bytes_of, IsWritable, size, distance, instructions}
+use Rattle.par_code_form.specs.Placeable.{most_bytes}
 use Rattle.par_place.proofs.Sizes.{size_any, branch_long}
 
 -- ---- the most bytes of an item

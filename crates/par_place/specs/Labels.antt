@@ -3,7 +3,7 @@ use Rattle.std.specs.Prelude.{ℕ, List}
 use Rattle.par_pool.specs.declared.constant.Constant.{Constant}
 use Rattle.par_class.specs.declared.file.CodeAttr.{CodeAttr}
 use Rattle.par_code_form.specs.declared.labelled.Labelled.{Labelled}
-use Rattle.par_place_laws.specs.Placed.{IsPlaced}
+use Rattle.par_code_form.specs.Placed.{IsPlaced}
 use Rattle.par_place.specs.Offsets.{HasOffsets, AreSmall}
 
 -- code whose labels stand at these offsets

@@ -6,8 +6,8 @@ use Rattle.par_pool.specs.declared.constant.Constant.{Constant}
 use Rattle.par_class.specs.declared.file.CodeAttr.{CodeAttr}
 use Rattle.par_code_form.specs.declared.item.Item.{Item}
 use Rattle.par_code_form.specs.declared.labelled.Labelled.{Labelled}
-use Rattle.par_place_laws.specs.Instructions.{instruction}
-use Rattle.par_place_laws.specs.Placed.{offset_of, offset_at, distance, IsPlaced}
+use Rattle.par_code_form.specs.Instructions.{instruction}
+use Rattle.par_code_form.specs.Placed.{offset_of, offset_at, distance, IsPlaced}
 
 -- the instruction of the item at a place, by the indices of what the items name
 pub record IsInstructionOf (items : List Item) (indices : List ℕ) (place : ℕ) (i : Instr)

@@ -4,9 +4,9 @@ use Rattle.par_pool.specs.Spelling.{IsText}
 use Rattle.par_code_form.specs.declared.item.Item.{Item}
 use Rattle.par_code_form.specs.declared.item.Item.TheVariants.{Label, Jump}
 use Rattle.par_code_form.specs.declared.labelled.Handler.{Handler}
-use Rattle.par_place_laws.specs.Named.{full_name}
-use Rattle.par_place_laws.specs.Placed.{offset_of}
-use Rattle.par_place_laws.specs.Placeable.{StandsOnce, MOST_BYTES}
+use Rattle.par_code_form.specs.PoolNames.{full_name}
+use Rattle.par_code_form.specs.Placed.{offset_of}
+use Rattle.par_code_form.specs.Placeable.{StandsOnce, MOST_BYTES}
 
 -- each label that stands once has its offset there
 abbrev pub HasOffsets : List Item → List ℕ → List ℕ → Type 0

@@ -5,9 +5,9 @@ ghost use Rattle.std.specs.Prelude.{IfSome, IsTrue};
 ghost use Rattle.std.specs.List.{flat_map, AllByRecursion};
 ghost use Rattle.par_instr.specs.Spelling.{has_spelling};
 ghost use Rattle.par_place.specs.Offsets.{AreSmall, HasOffset};
-ghost use Rattle.par_place_laws.specs.Placed as spec;
-ghost use Rattle.par_place_laws.specs.Placed.{bytes_of, instructions, IsWritable};
-ghost use Rattle.par_place_laws.specs.Placeable.{FitsItem, most_bytes, MOST_BYTES};
+ghost use Rattle.par_code_form.specs.Placed as spec;
+ghost use Rattle.par_code_form.specs.Placed.{bytes_of, instructions, IsWritable};
+ghost use Rattle.par_code_form.specs.Placeable.{FitsItem, most_bytes, MOST_BYTES};
 
 use crate::instruction::instruction;
 use par_base::memory::NoMemory;

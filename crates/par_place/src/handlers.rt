@@ -4,9 +4,9 @@ ghost use Rattle.std.specs.Prelude.{◌≡◌, ◌+◌, ◌*◌, ◌<◌, length
 ghost use Rattle.std.specs.List.{AllZip};
 ghost use Rattle.par_pool.specs.Growth.{Adds, IsClassPart};
 ghost use Rattle.par_place.specs.Offsets.{HasLabels};
-ghost use Rattle.par_place_laws.specs.Named as spec;
-ghost use Rattle.par_place_laws.specs.Named.{IsCaughtIn};
-ghost use Rattle.par_place_laws.specs.Placed.{IsCatch};
+ghost use Rattle.par_code_form.specs.PoolNames as spec;
+ghost use Rattle.par_code_form.specs.PoolNames.{IsCaughtIn};
+ghost use Rattle.par_code_form.specs.Placed.{IsCatch};
 
 use crate::named::class_index;
 use par_base::list::List;

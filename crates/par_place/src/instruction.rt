@@ -2,9 +2,9 @@
 
 ghost use Rattle.std.specs.Prelude.{◌≡◌, ◌≤◌, length, IfSome, IsTrue};
 ghost use Rattle.par_instr.specs.Spelling.{spelling, has_spelling};
-ghost use Rattle.par_place_laws.specs.Instructions as form;
-ghost use Rattle.par_place_laws.specs.Placed.{size};
-ghost use Rattle.par_place_laws.specs.Placeable.{FitsItem, most_bytes};
+ghost use Rattle.par_code_form.specs.Instructions as form;
+ghost use Rattle.par_code_form.specs.Placed.{size};
+ghost use Rattle.par_code_form.specs.Placeable.{FitsItem, most_bytes};
 
 use par_code_form::Item;
 use par_code_form::opcode::{

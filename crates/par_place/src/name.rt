@@ -1,8 +1,8 @@
 //! What classes are called in class files.
 
 ghost use Rattle.std.specs.Prelude.{◌≡◌, ◌<◌, IfOk};
-ghost use Rattle.par_place_laws.specs.Named as named;
-ghost use Rattle.par_place_laws.specs.Placeable.{MOST_LOCKS};
+ghost use Rattle.par_code_form.specs.PoolNames as named;
+ghost use Rattle.par_code_form.specs.Placeable.{MOST_LOCKS};
 ghost use Rattle.par_pool.specs.Spelling.{IsText};
 
 use par_base::memory::NoMemory;

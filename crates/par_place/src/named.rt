@@ -7,12 +7,12 @@ ghost use Rattle.par_pool.specs.declared.constant.Constant.TheVariants.{Field};
 ghost use Rattle.par_pool.specs.Entries.{IsMemberAt, IsClassAt, IsFieldAt};
 ghost use Rattle.par_pool.specs.Growth.{Adds, IsMemberPart, IsClassPart};
 ghost use Rattle.par_pool.specs.Spelling.{IsText};
-ghost use Rattle.par_place_laws.specs.Instructions.{within};
-ghost use Rattle.par_place_laws.specs.Named as spec;
-ghost use Rattle.par_place_laws.specs.Named.{Names, IsPartOf, IsNamedIn, entries};
-ghost use Rattle.par_place_laws.specs.Named.{member_form, LOCKS, LOCK_TYPE};
-ghost use Rattle.par_place_laws.specs.Named.{lock_field};
-ghost use Rattle.par_place_laws.specs.Placeable.{FitsItem, MOST_LOCKS};
+ghost use Rattle.par_code_form.specs.Instructions.{within};
+ghost use Rattle.par_code_form.specs.PoolNames as spec;
+ghost use Rattle.par_code_form.specs.PoolNames.{Names, IsPartOf, IsNamedIn, entries};
+ghost use Rattle.par_code_form.specs.PoolNames.{member_form, LOCKS, LOCK_TYPE};
+ghost use Rattle.par_code_form.specs.PoolNames.{lock_field};
+ghost use Rattle.par_code_form.specs.Placeable.{FitsItem, MOST_LOCKS};
 
 use crate::name::{full_name, lock_field};
 use par_base::memory::NoMemory;

@@ -3,7 +3,7 @@
 ghost use Rattle.std.specs.Prelude.{◌≡◌, ◌≢◌, ℕ, ◌≤◌, Some, length, slice_get, All, sum_by};
 ghost use Rattle.std.specs.Prelude.{IfOk, OnOk};
 ghost use Rattle.par_place.specs.Offsets.{HasOffsets, AreSmall, Marks};
-ghost use Rattle.par_place_laws.specs.Placeable.{FitsItem, most_bytes, MOST_BYTES};
+ghost use Rattle.par_code_form.specs.Placeable.{FitsItem, most_bytes, MOST_BYTES};
 
 use crate::instruction::size;
 use par_base::memory::NoMemory;

@@ -3,9 +3,9 @@
 ghost use Rattle.std.specs.Prelude.{◌≡◌, ◌+◌, ◌^◌, ◌<◌, [], length, IfOk};
 ghost use Rattle.par_pool.specs.Growth.{Adds};
 ghost use Rattle.par_class.specs.Spelling.{FitsCode};
-ghost use Rattle.par_place_laws.specs.Named.{IsConstantOf, entry_count};
-ghost use Rattle.par_place_laws.specs.Placed.{IsPlaced};
-ghost use Rattle.par_place_laws.specs.Placeable.{IsPlaceable};
+ghost use Rattle.par_code_form.specs.PoolNames.{IsConstantOf, entry_count};
+ghost use Rattle.par_code_form.specs.Placed.{IsPlaced};
+ghost use Rattle.par_code_form.specs.Placeable.{IsPlaceable};
 ghost use Rattle.par_place.specs.Labels.{IsPlacedAt};
 
 use crate::code_bytes::write;

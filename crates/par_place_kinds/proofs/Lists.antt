@@ -9,7 +9,7 @@ use Rattle.par_values.specs.Areas.{Name}
 use Rattle.par_kinds.specs.declared.frame.VKind.{VKind}
 use Rattle.par_kinds.specs.declared.frame.VKind.TheVariants as kind
 use Rattle.par_kinds.specs.Kinds.{into, kind_at}
-use Rattle.par_frame_pass_laws.specs.Passes.{all_into, merge_all}
+use Rattle.par_kinds.specs.Passes.{all_into, merge_all}
 use Rattle.par_place_kinds.specs.declared.kind.PlaceKind.{PlaceKind}
 use Rattle.par_place_kinds.specs.Marks.{kind_of, kinds_of}
 use Rattle.par_place_kinds.specs.Listed.{listed_into}

@@ -7,8 +7,8 @@ use Rattle.std.proofs.lemmas.Bool.{and_parts}
 use Rattle.par_values.specs.Areas.{Name}
 use Rattle.par_kinds.specs.declared.frame.VKind.{VKind}
 use Rattle.par_kinds.specs.Kinds.{into, kind_at}
-use Rattle.par_frame_pass_laws.specs.Passes.{all_into}
-use Rattle.par_frame_pass_laws.proofs.Merging.{into-same}
+use Rattle.par_kinds.specs.Passes.{all_into}
+use Rattle.par_kinds.proofs.Merging.{into-same}
 use Rattle.par_place_kinds.specs.Listed.{listed_into}
 use Rattle.par_place_kinds.specs.Numbered.{numbered, AreBelow}
 

@@ -1,7 +1,7 @@
 //! Different kinds, as which others are told.
 
 ghost use Rattle.std.specs.Prelude.{◌≡◌, length, take, IsTrue, IfOk};
-ghost use Rattle.par_frame_pass_laws.specs.Passes.{all_into};
+ghost use Rattle.par_kinds.specs.Passes.{all_into};
 ghost use Rattle.par_place_kinds.specs.Marks.{names, kinds_of};
 
 use crate::kind::PlaceKind;

@@ -1,7 +1,7 @@
 //! Lists of kinds of which few are different.
 
 ghost use Rattle.std.specs.Prelude.{◌≡◌, ◌≤◌, [], ◌++◌, length, take, IsTrue, IfOk, Some, IfSome};
-ghost use Rattle.par_frame_pass_laws.specs.Passes.{all_into};
+ghost use Rattle.par_kinds.specs.Passes.{all_into};
 ghost use Rattle.par_place_kinds.specs.Marks.{names, kinds_of};
 ghost use Rattle.par_place_kinds.specs.Numbered.{numbered, AreBelow};
 ghost use Rattle.par_kinds.specs.Kinds.{into, kind_at};

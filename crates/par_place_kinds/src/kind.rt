@@ -4,7 +4,7 @@ ghost use Rattle.std.specs.Prelude.{◌≡◌, [], IsTrue};
 ghost use Rattle.par_kinds.specs.Kinds.{is_in, into, throwable, exceptional, accepts};
 ghost use Rattle.par_kinds.specs.declared.frame.VKind.TheVariants as kind;
 ghost use Rattle.par_values.specs.declared.kind.Kind.TheVariants as asked;
-ghost use Rattle.par_frame_pass_laws.specs.Passes.{merge};
+ghost use Rattle.par_kinds.specs.Passes.{merge};
 ghost use Rattle.par_place_kinds.specs.Marks.{names, kind_of};
 
 /// What kind of value a local or an operand holds.

@@ -1,7 +1,7 @@
 //! Lists of kinds.
 
 ghost use Rattle.std.specs.Prelude.{◌≡◌, IfOk};
-ghost use Rattle.par_frame_pass_laws.specs.Passes.{all_into, merge_all};
+ghost use Rattle.par_kinds.specs.Passes.{all_into, merge_all};
 ghost use Rattle.par_kinds.specs.Kinds.{kind_at};
 ghost use Rattle.par_place_kinds.specs.Listed.{listed_into};
 ghost use Rattle.par_place_kinds.specs.Marks.{names, kind_of, kinds_of};

@@ -1,7 +1,7 @@
 //! Pieces of piles, which copies share.
 
 ghost use Rattle.std.specs.Prelude.{◌≡◌, ◌<◌, [], length, slice_set, IsTrue, IfOk, IfSome};
-ghost use Rattle.par_frame_pass_laws.specs.Passes.{all_into, merge_all};
+ghost use Rattle.par_kinds.specs.Passes.{all_into, merge_all};
 ghost use Rattle.par_place_kinds.specs.Listed.{listed_into};
 ghost use Rattle.par_place_kinds.specs.Marks.{names, kinds_of};
 

@@ -10,16 +10,16 @@ use Rattle.par_values.specs.Areas.{Name}
 use Rattle.par_code_form.specs.declared.item.Item.{Item}
 use Rattle.par_code_form.specs.declared.item.Item.TheVariants.{Label, Op, Const, Jump, Member}
 use Rattle.par_code_form.specs.declared.item.Item.TheVariants.{ClassOp, LockOp}
-use Rattle.par_place_laws.specs.Instructions.{is_instruction}
-use Rattle.par_place_laws.specs.Placed.{size, is_label, offset_of, offset_at}
-use Rattle.par_frame_pass_laws.specs.par_kinds.Kinds.{KFrame, FrameInto}
-use Rattle.par_frame_pass_laws.specs.par_kinds.Acts.{Act}
-use Rattle.par_frame_pass_laws.proofs.Lower.{below-same, frame-then}
-use Rattle.par_label_kind_laws.specs.Walks.{Sign, Role, Plain, Opens, Closes, Catches, Guard}
-use Rattle.par_label_kind_laws.specs.Walks.{behind_label, behind_flow, left}
-use Rattle.par_label_kind_laws.specs.Walks.{opened, Plays, Meets, Does}
-use Rattle.par_label_kind_laws.specs.par_match_laws.Labelled.{is_there}
-use Rattle.par_label_kind_laws.specs.Walks.{Walks}
+use Rattle.par_code_form.specs.Instructions.{is_instruction}
+use Rattle.par_code_form.specs.Placed.{size, is_label, offset_of, offset_at}
+use Rattle.par_kinds.specs.Kinds.{KFrame, FrameInto}
+use Rattle.par_kinds.specs.Acts.{Act}
+use Rattle.par_kinds.proofs.Lower.{below-same, frame-then}
+use Rattle.par_placed_fit_laws.specs.Walks.{Sign, Role, Plain, Opens, Closes, Catches, Guard}
+use Rattle.par_placed_fit_laws.specs.Walks.{behind_label, behind_flow, left}
+use Rattle.par_placed_fit_laws.specs.Walks.{opened, Plays, Meets, Does}
+use Rattle.par_evaluation_laws.specs.par_match_laws.Labelled.{is_there}
+use Rattle.par_placed_fit_laws.specs.Walks.{Walks}
 use Rattle.par_placed_fit_laws.specs.Given.{behind_act, given_from}
 
 frame_same : (exc : List Name) (k : KFrame) → FrameInto exc k k

@@ -7,11 +7,11 @@ use Rattle.par_values.specs.Areas.{Name}
 use Rattle.par_code_form.specs.declared.item.Item.{Item}
 use Rattle.par_code_form.specs.declared.item.Item.TheVariants.{Label, Op, Const, Jump, Member}
 use Rattle.par_code_form.specs.declared.item.Item.TheVariants.{ClassOp, LockOp}
-use Rattle.par_place_laws.specs.Instructions.{is_instruction}
-use Rattle.par_place_laws.specs.Placed.{size, offset_at}
-use Rattle.par_frame_pass_laws.specs.par_kinds.Kinds.{KFrame}
-use Rattle.par_frame_pass_laws.specs.par_kinds.Acts.{Act}
-use Rattle.par_label_kind_laws.specs.Walks.{Sign, Guard, behind_label, opened, lands}
+use Rattle.par_code_form.specs.Instructions.{is_instruction}
+use Rattle.par_code_form.specs.Placed.{size, offset_at}
+use Rattle.par_kinds.specs.Kinds.{KFrame}
+use Rattle.par_kinds.specs.Acts.{Act}
+use Rattle.par_placed_fit_laws.specs.Walks.{Sign, Guard, behind_label, opened, lands}
 use Rattle.par_placed_fit_laws.proofs.Along.{Walk, Agrees, split, offset_next, label_walks, no_walk}
 use Rattle.par_placed_fit_laws.proofs.Along.{given_first}
 

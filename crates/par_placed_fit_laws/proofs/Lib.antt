@@ -4,4 +4,6 @@ pub mod Ranges
 pub mod Whole
 pub mod Placing
 pub mod Written
-pub use Rattle.par_placed_run_laws.proofs as par_placed_run_laws
+pub mod Placed
+pub mod Telling
+pub use Rattle.par_evaluation_laws.proofs as par_evaluation_laws

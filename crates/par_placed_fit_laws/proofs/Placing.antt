@@ -8,10 +8,10 @@ use Rattle.par_class.specs.declared.file.CodeAttr.{CodeAttr}
 use Rattle.par_single.specs.Walk.{starts_at}
 use Rattle.par_code_form.specs.declared.item.Item.{Item}
 use Rattle.par_code_form.specs.declared.labelled.Labelled.{Labelled}
-use Rattle.par_place_laws.specs.Instructions.{is_instruction}
-use Rattle.par_place_laws.specs.Named.{Names}
-use Rattle.par_place_laws.specs.Placed.{size, offset_of, offset_at, IsPlaced}
-use Rattle.par_place_laws.specs.Placeable.{FitsItem, IsPlaceable}
+use Rattle.par_code_form.specs.Instructions.{is_instruction}
+use Rattle.par_code_form.specs.PoolNames.{Names}
+use Rattle.par_code_form.specs.Placed.{size, offset_of, offset_at, IsPlaced}
+use Rattle.par_code_form.specs.Placeable.{FitsItem, IsPlaceable}
 use Rattle.par_place.proofs.Sizes.{size_some}
 use Rattle.par_place.proofs.Standing.{placed_stand}
 use Rattle.par_placed_run_laws.proofs.Walk.{starts_there}

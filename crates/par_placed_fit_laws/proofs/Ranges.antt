@@ -8,14 +8,14 @@ use Rattle.std.proofs.lemmas.Bool.{eqb-true, eqb-false}
 use Rattle.par_values.specs.Areas.{Name}
 use Rattle.par_code_form.specs.declared.item.Item.{Item}
 use Rattle.par_code_form.specs.declared.item.Item.TheVariants.{Label}
-use Rattle.par_place_laws.specs.Instructions.{is_instruction}
-use Rattle.par_place_laws.specs.Placed.{size, offset_of}
-use Rattle.par_frame_pass_laws.specs.par_kinds.declared.frame.VKind.{VKind}
-use Rattle.par_frame_pass_laws.specs.par_kinds.Kinds.{KFrame, Each, Both, Into}
-use Rattle.par_frame_pass_laws.specs.par_kinds.Acts.{Act}
-use Rattle.par_label_kind_laws.specs.Walks.{Sign, Role, Plain, Opens, Closes, Catches, Guard}
-use Rattle.par_label_kind_laws.specs.Walks.{opened}
-use Rattle.par_label_kind_laws.specs.Walks.{Plays, behind_label, Walks}
+use Rattle.par_code_form.specs.Instructions.{is_instruction}
+use Rattle.par_code_form.specs.Placed.{size, offset_of}
+use Rattle.par_kinds.specs.declared.frame.VKind.{VKind}
+use Rattle.par_kinds.specs.Kinds.{KFrame, Each, Both, Into}
+use Rattle.par_kinds.specs.Acts.{Act}
+use Rattle.par_placed_fit_laws.specs.Walks.{Sign, Role, Plain, Opens, Closes, Catches, Guard}
+use Rattle.par_placed_fit_laws.specs.Walks.{opened}
+use Rattle.par_placed_fit_laws.specs.Walks.{Plays, behind_label, Walks}
 use Rattle.par_placed_fit_laws.specs.Given.{behind_act, given_from}
 use Rattle.par_placed_fit_laws.proofs.Along.{split, offset_step, given_step, walks_does, walks_none}
 use Rattle.par_placed_fit_laws.proofs.Along.{label_walks}

@@ -23,26 +23,26 @@ use Rattle.par_code_form.specs.declared.item.Item.TheVariants.{Label, Op, Const,
 use Rattle.par_code_form.specs.declared.item.Item.TheVariants.{ClassOp, LockOp}
 use Rattle.par_code_form.specs.declared.labelled.Handler.{Handler}
 use Rattle.par_code_form.specs.declared.labelled.Labelled.{Labelled}
-use Rattle.par_place_laws.specs.Instructions.{instruction, is_instruction}
-use Rattle.par_place_laws.specs.Named.{Names}
-use Rattle.par_place_laws.specs.Placed.{size, is_label, offset_of, offset_at, distance, IsCatch}
-use Rattle.par_place_laws.specs.Placed.{IsPlaced}
-use Rattle.par_place_laws.specs.Placeable.{FitsItem, StandsOnce, HasTarget, FitsHandler}
-use Rattle.par_place_laws.specs.Placeable.{IsPlaceable}
-use Rattle.par_frame_pass_laws.specs.par_kinds.declared.frame.VKind.{VKind}
-use Rattle.par_frame_pass_laws.specs.par_kinds.declared.frame.VKind.TheVariants.{Object as AnObject}
-use Rattle.par_frame_pass_laws.specs.par_kinds.Kinds.{KFrame, Each}
-use Rattle.par_frame_pass_laws.specs.par_kinds.Acts.{Act, ActFits, Flow, Onward, Jumps, Branches}
-use Rattle.par_frame_pass_laws.specs.par_kinds.Acts.{Nowhere}
-use Rattle.par_frame_pass_laws.specs.par_kinds.Acts.{left_by}
-use Rattle.par_frame_pass_laws.specs.par_kinds.Acts.{next_offsets}
-use Rattle.par_frame_pass_laws.specs.par_kinds.Fits.{around, GoesTo, CatchFits, FitsAt, Fitting}
-use Rattle.par_frame_pass_laws.proofs.Lower.{below-then, frame-then}
-use Rattle.par_label_kind_laws.specs.Walks.{Sign, Guard, behind_label, behind_flow, left, opened}
-use Rattle.par_label_kind_laws.specs.Walks.{goal}
-use Rattle.par_label_kind_laws.specs.Walks.{To, Onto, Branching, Does, IsHandled}
-use Rattle.par_label_kind_laws.specs.par_match_laws.Labelled.{is_there}
-use Rattle.par_label_kind_laws.specs.Fits.{Fits}
+use Rattle.par_code_form.specs.Instructions.{instruction, is_instruction}
+use Rattle.par_code_form.specs.PoolNames.{Names}
+use Rattle.par_code_form.specs.Placed.{size, is_label, offset_of, offset_at, distance, IsCatch}
+use Rattle.par_code_form.specs.Placed.{IsPlaced}
+use Rattle.par_code_form.specs.Placeable.{FitsItem, StandsOnce, HasTarget, FitsHandler}
+use Rattle.par_code_form.specs.Placeable.{IsPlaceable}
+use Rattle.par_kinds.specs.declared.frame.VKind.{VKind}
+use Rattle.par_kinds.specs.declared.frame.VKind.TheVariants.{Object as AnObject}
+use Rattle.par_kinds.specs.Kinds.{KFrame, Each}
+use Rattle.par_kinds.specs.Acts.{Act, ActFits, Flow, Onward, Jumps, Branches}
+use Rattle.par_kinds.specs.Acts.{Nowhere}
+use Rattle.par_kinds.specs.Acts.{left_by}
+use Rattle.par_kinds.specs.Acts.{next_offsets}
+use Rattle.par_kinds.specs.Fits.{around, GoesTo, CatchFits, FitsAt, Fitting}
+use Rattle.par_kinds.proofs.Lower.{below-then, frame-then}
+use Rattle.par_placed_fit_laws.specs.Walks.{Sign, Guard, behind_label, behind_flow, left, opened}
+use Rattle.par_placed_fit_laws.specs.Walks.{goal}
+use Rattle.par_placed_fit_laws.specs.Walks.{To, Onto, Branching, Does, IsHandled}
+use Rattle.par_evaluation_laws.specs.par_match_laws.Labelled.{is_there}
+use Rattle.par_placed_fit_laws.specs.Fits.{Fits}
 use Rattle.par_placed_fit_laws.specs.Given.{aim, aimed, behind_act, given_from}
 use Rattle.par_placed_fit_laws.specs.Laws.{Means}
 use Rattle.par_placed_fit_laws.proofs.Along.{Walk, Agrees, Lies, split, offset_next, has_label}

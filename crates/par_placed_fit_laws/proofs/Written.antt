@@ -10,19 +10,19 @@ use Rattle.par_code_form.specs.declared.item.Item.{Item}
 use Rattle.par_code_form.specs.declared.item.Item.TheVariants.{Label, Op, Const, Jump, Member}
 use Rattle.par_code_form.specs.declared.item.Item.TheVariants.{ClassOp, LockOp}
 use Rattle.par_code_form.specs.declared.labelled.LabelFrame.{LabelFrame}
-use Rattle.par_place_laws.specs.Instructions.{is_instruction}
-use Rattle.par_place_laws.specs.Named.{Names}
-use Rattle.par_place_laws.specs.Placed.{size, offset_of}
-use Rattle.par_place_laws.specs.Placeable.{StandsOnce}
-use Rattle.par_place_laws.specs.Framed.{FitsFrame}
+use Rattle.par_code_form.specs.Instructions.{is_instruction}
+use Rattle.par_code_form.specs.PoolNames.{Names}
+use Rattle.par_code_form.specs.Placed.{size, offset_of}
+use Rattle.par_code_form.specs.Placeable.{StandsOnce}
+use Rattle.par_code_form.specs.PlaceableFrames.{FitsFrame}
 use Rattle.par_place.proofs.Sizes.{offset_is}
-use Rattle.par_frame_pass_laws.specs.par_kinds.declared.frame.PlacedFrame.{PlacedFrame}
-use Rattle.par_frame_pass_laws.specs.par_kinds.Kinds.{KFrame}
-use Rattle.par_frame_pass_laws.specs.par_kinds.Acts.{Act}
-use Rattle.par_label_kind_laws.specs.par_frame_laws.Framed.{placed, placed_at, frame_at, frame_of}
-use Rattle.par_label_kind_laws.specs.par_frame_laws.Framed.{before, last_ones}
-use Rattle.par_label_kind_laws.specs.Walks.{Sign, Guard, behind_label, opened, lands}
-use Rattle.par_label_kind_laws.specs.Fits.{kinds_at}
+use Rattle.par_kinds.specs.declared.frame.PlacedFrame.{PlacedFrame}
+use Rattle.par_kinds.specs.Kinds.{KFrame}
+use Rattle.par_kinds.specs.Acts.{Act}
+use Rattle.par_compile_laws.specs.Framed.{placed, placed_at, frame_at, frame_of}
+use Rattle.par_compile_laws.specs.Framed.{before, last_ones}
+use Rattle.par_placed_fit_laws.specs.Walks.{Sign, Guard, behind_label, opened, lands}
+use Rattle.par_placed_fit_laws.specs.Fits.{kinds_at}
 use Rattle.par_placed_fit_laws.specs.Given.{behind_act, given_from}
 use Rattle.par_placed_fit_laws.specs.Laws.{IsGivenAt, WrittenFramesAreGiven}
 use Rattle.par_placed_fit_laws.proofs.Along.{Walk, Agrees, self, split, label_walks, walks_does}

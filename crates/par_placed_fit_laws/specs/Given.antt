@@ -3,10 +3,10 @@ use Rattle.std.specs.Prelude.{ℕ, ◌+◌, ◌==◌, ℤ, if◌then◌else◌, 
 use Rattle.std.specs.Prelude.{None}
 use Rattle.par_code_form.specs.declared.item.Item.{Item}
 use Rattle.par_code_form.specs.declared.item.Item.TheVariants.{Label}
-use Rattle.par_place_laws.specs.Placed.{size}
-use Rattle.par_frame_pass_laws.specs.par_kinds.Kinds.{KFrame}
-use Rattle.par_frame_pass_laws.specs.par_kinds.Acts.{Act, Flow, Onward, Jumps, Branches, Nowhere}
-use Rattle.par_label_kind_laws.specs.Walks.{Sign, behind_label, behind_flow, left}
+use Rattle.par_code_form.specs.Placed.{size}
+use Rattle.par_kinds.specs.Kinds.{KFrame}
+use Rattle.par_kinds.specs.Acts.{Act, Flow, Onward, Jumps, Branches, Nowhere}
+use Rattle.par_placed_fit_laws.specs.Walks.{Sign, behind_label, behind_flow, left}
 
 -- with this distance where it goes by a label
 abbrev pub aim : ℤ → Flow → Flow

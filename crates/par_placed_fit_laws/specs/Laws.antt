@@ -9,21 +9,21 @@ use Rattle.par_values.specs.Areas.{Name}
 use Rattle.par_code_form.specs.declared.item.Item.{Item}
 use Rattle.par_code_form.specs.declared.labelled.Handler.{Handler}
 use Rattle.par_code_form.specs.declared.labelled.Labelled.{Labelled}
-use Rattle.par_place_laws.specs.Instructions.{instruction}
-use Rattle.par_place_laws.specs.Named.{Names}
-use Rattle.par_place_laws.specs.Placed.{IsPlaced}
-use Rattle.par_place_laws.specs.Placeable.{FitsItem, IsPlaceable}
-use Rattle.par_place_laws.specs.Framed.{AreFramesPlaceable}
-use Rattle.par_frame_pass_laws.specs.par_kinds.declared.frame.PlacedFrame.{PlacedFrame}
-use Rattle.par_frame_pass_laws.specs.par_kinds.declared.frame.VKind.{VKind}
-use Rattle.par_frame_pass_laws.specs.par_kinds.declared.frame.VKind.TheVariants.{Object as AnObject}
-use Rattle.par_frame_pass_laws.specs.par_kinds.Kinds.{KFrame}
-use Rattle.par_frame_pass_laws.specs.par_kinds.Acts.{Act}
-use Rattle.par_frame_pass_laws.specs.par_kinds.Fits.{Given, Fitting}
-use Rattle.par_frame_pass_laws.specs.par_kinds.Told.{as_met}
-use Rattle.par_label_kind_laws.specs.par_frame_laws.Framed.{frames_of}
-use Rattle.par_label_kind_laws.specs.Walks.{Sign}
-use Rattle.par_label_kind_laws.specs.Fits.{Fits}
+use Rattle.par_code_form.specs.Instructions.{instruction}
+use Rattle.par_code_form.specs.PoolNames.{Names}
+use Rattle.par_code_form.specs.Placed.{IsPlaced}
+use Rattle.par_code_form.specs.Placeable.{FitsItem, IsPlaceable}
+use Rattle.par_code_form.specs.PlaceableFrames.{AreFramesPlaceable}
+use Rattle.par_kinds.specs.declared.frame.PlacedFrame.{PlacedFrame}
+use Rattle.par_kinds.specs.declared.frame.VKind.{VKind}
+use Rattle.par_kinds.specs.declared.frame.VKind.TheVariants.{Object as AnObject}
+use Rattle.par_kinds.specs.Kinds.{KFrame}
+use Rattle.par_kinds.specs.Acts.{Act}
+use Rattle.par_kinds.specs.Fits.{Given, Fitting}
+use Rattle.par_kinds.specs.Told.{as_met}
+use Rattle.par_compile_laws.specs.Framed.{frames_of}
+use Rattle.par_placed_fit_laws.specs.Walks.{Sign}
+use Rattle.par_placed_fit_laws.specs.Fits.{Fits}
 use Rattle.par_placed_fit_laws.specs.Given.{aimed, given_from}
 
 -- what instructions and handlers of placed code are is what its items and handlers are

@@ -1,6 +1,12 @@
+pub mod Walks
+pub mod Signs
+pub mod Tells
+pub mod Fits
 pub mod Given
 pub mod Laws
-pub use Rattle.par_frame_pass_laws.specs.par_kinds as par_kinds
-pub use Rattle.par_label_kind_laws.specs as par_label_kind_laws
-pub use Rattle.par_placed_run_laws.specs.par_naming_laws as par_naming_laws
-pub use Rattle.par_frame_pass_laws.specs.par_step_laws as par_step_laws
+pub mod Acts
+pub mod ItemLaws
+pub use Rattle.par_evaluation_laws.specs as par_evaluation_laws
+pub use Rattle.par_compile_laws.specs as par_compile_laws
+pub use Rattle.par_evaluation_laws.specs.par_program_laws as par_program_laws
+pub use Rattle.par_evaluation_laws.specs.par_match_laws as par_match_laws

@@ -18,11 +18,11 @@ use Rattle.par_values.specs.Operations.{operation, takes, gives}
 use Rattle.par_values.specs.Reasons.{Spot, misplaced, misnamed, disagrees, misused, misreturns}
 use Rattle.par_values.specs.Reasons.{misgiven}
 use Rattle.par_values.specs.Effects.{effect, jumps_if, comes, is_same}
-use Rattle.par_relocation_laws.specs.par_step_laws.Step.{called_on_object}
-use Rattle.par_relocation_laws.specs.par_engine_laws.Engine.{Found, Program}
-use Rattle.par_naming_laws.specs.par_match_laws.Labelled as matching
-use Rattle.par_place.specs.par_place_laws.Instructions as placed
-use Rattle.par_relocation_laws.specs.Relocated.{Places, Shifts, Kin}
+use Rattle.par_step_laws.specs.Step.{called_on_object}
+use Rattle.par_match_laws.specs.Engine.{Found, Program}
+use Rattle.par_match_laws.specs.Labelled as matching
+use Rattle.par_place.specs.par_code_form.Instructions as placed
+use Rattle.par_placed_run_laws.specs.Relocated.{Places, Shifts, Kin}
 use Rattle.par_placed_run_laws.proofs.Operations.{IsAsFar, TakesAll}
 
 -- ---- the forms of branches

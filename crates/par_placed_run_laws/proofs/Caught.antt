@@ -14,29 +14,29 @@ use Rattle.par_class.specs.declared.file.ClassFile.{ClassFile}
 use Rattle.par_values.specs.declared.link.ClassLink.{ClassLink}
 use Rattle.par_values.specs.declared.link.Link.TheVariants as link
 use Rattle.par_values.specs.Areas.{Name}
-use Rattle.par_relocation_laws.specs.par_link.entry.Builtin.{Builtin}
-use Rattle.par_relocation_laws.specs.par_link.entry.Builtin.TheVariants as builtin
-use Rattle.par_relocation_laws.specs.par_link.entry.Named.{Named}
-use Rattle.par_relocation_laws.specs.par_link.entry.Named.TheVariants as named
-use Rattle.par_relocation_laws.specs.par_link.Builtins as builtins
-use Rattle.par_relocation_laws.specs.par_link.Named.{class_of, class_place, class_named}
-use Rattle.par_relocation_laws.specs.par_link.Linked.{named_at}
-use Rattle.par_relocation_laws.specs.par_step_laws.Methods.{class_pool}
-use Rattle.par_relocation_laws.specs.par_step_laws.Links.{link_of, class_link}
-use Rattle.par_relocation_laws.specs.par_step_laws.State.{Frame}
-use Rattle.par_relocation_laws.specs.par_step_laws.Handlers.{named_takes, takes, first_handler}
-use Rattle.par_relocation_laws.specs.par_step_laws.Handlers.{covers}
-use Rattle.par_relocation_laws.specs.par_engine_laws.Files.{frame_at}
+use Rattle.par_step_laws.specs.par_link.entry.Builtin.{Builtin}
+use Rattle.par_step_laws.specs.par_link.entry.Builtin.TheVariants as builtin
+use Rattle.par_step_laws.specs.par_link.entry.Named.{Named}
+use Rattle.par_step_laws.specs.par_link.entry.Named.TheVariants as named
+use Rattle.par_step_laws.specs.par_link.Builtins as builtins
+use Rattle.par_step_laws.specs.par_link.Named.{class_of, class_place, class_named}
+use Rattle.par_step_laws.specs.par_link.Linked.{named_at}
+use Rattle.par_step_laws.specs.Methods.{class_pool}
+use Rattle.par_step_laws.specs.Links.{link_of, class_link}
+use Rattle.par_step_laws.specs.State.{Frame}
+use Rattle.par_step_laws.specs.Handlers.{named_takes, takes, first_handler}
+use Rattle.par_step_laws.specs.Handlers.{covers}
+use Rattle.par_match_laws.specs.Files.{frame_at}
 use Rattle.par_place.specs.par_code_form.declared.item.Item.{Item}
 use Rattle.par_place.specs.par_code_form.declared.labelled.Handler.{Handler}
-use Rattle.par_naming_laws.specs.par_match_laws.Labelled as matching
-use Rattle.par_naming_laws.specs.par_match_laws.Labelled.{spot, target, handled}
-use Rattle.par_place.specs.par_place_laws.Instructions.{is_instruction}
-use Rattle.par_place.specs.par_place_laws.Named.{full_name}
-use Rattle.par_place.specs.par_place_laws.Placed.{offset_of, offset_at, IsCatch}
-use Rattle.par_place.specs.par_place_laws.Placeable.{FitsItem}
+use Rattle.par_match_laws.specs.Labelled as matching
+use Rattle.par_match_laws.specs.Labelled.{spot, target, handled}
+use Rattle.par_place.specs.par_code_form.Instructions.{is_instruction}
+use Rattle.par_place.specs.par_code_form.PoolNames.{full_name}
+use Rattle.par_place.specs.par_code_form.Placed.{offset_of, offset_at, IsCatch}
+use Rattle.par_place.specs.par_code_form.Placeable.{FitsItem}
 use Rattle.par_place.proofs.Sizes.{upto_le, upto_less}
-use Rattle.par_naming_laws.specs.Naming.{naming_of, number_of, class_of_name}
+use Rattle.par_match_laws.specs.Naming.{naming_of, number_of, class_of_name}
 use Rattle.par_placed_run_laws.specs.Laid.{IsOfMade}
 use Rattle.par_placed_run_laws.proofs.Positions.{spot_offset, target_offset}
 use Rattle.par_placed_run_laws.proofs.Named.{class_at}

@@ -35,31 +35,31 @@ use Rattle.par_values.specs.Areas.{Name, Areas}
 use Rattle.par_values.specs.Operations.{Operation, Push, operation, constant, of_class, of_field}
 use Rattle.par_values.specs.Operations.{of_method, GetStatic, PutStatic, GetField, PutField}
 use Rattle.par_values.specs.Operations.{InvokeStatic, InvokeSpecial, InvokeVirtual, Misnamed}
-use Rattle.par_relocation_laws.specs.par_step_laws.Methods.{class_pool, method_code}
-use Rattle.par_relocation_laws.specs.par_link.Linked.{named_at}
-use Rattle.par_relocation_laws.specs.par_step_laws.Links.{link_at, lock_link}
-use Rattle.par_relocation_laws.specs.par_step_laws.Step.{called_on_object}
-use Rattle.par_relocation_laws.specs.par_engine_laws.Engine.{Found, Program, is_misreceived}
-use Rattle.par_relocation_laws.specs.par_engine_laws.Files.{found_in, found_of, index_wants}
-use Rattle.par_relocation_laws.specs.par_engine_laws.Files.{is_of_exceptions}
-use Rattle.par_relocation_laws.specs.par_engine_laws.Files.{of_files}
+use Rattle.par_step_laws.specs.Methods.{class_pool, method_code}
+use Rattle.par_step_laws.specs.par_link.Linked.{named_at}
+use Rattle.par_step_laws.specs.Links.{link_at, lock_link}
+use Rattle.par_step_laws.specs.Step.{called_on_object}
+use Rattle.par_match_laws.specs.Engine.{Found, Program, is_misreceived}
+use Rattle.par_match_laws.specs.Files.{found_in, found_of, index_wants}
+use Rattle.par_match_laws.specs.Files.{is_of_exceptions}
+use Rattle.par_match_laws.specs.Files.{of_files}
 use Rattle.par_place.specs.par_code_form.declared.item.Item.{Item}
 use Rattle.par_place.specs.par_code_form.declared.item.Item.TheVariants.{Label, Op, Const, Jump}
 use Rattle.par_place.specs.par_code_form.declared.item.Item.TheVariants.{Member}
 use Rattle.par_place.specs.par_code_form.declared.item.Item.TheVariants.{ClassOp, LockOp}
 use Rattle.par_place.specs.par_code_form.declared.labelled.Labelled.{Labelled}
-use Rattle.par_naming_laws.specs.par_match_laws.Labelled as matching
-use Rattle.par_naming_laws.specs.par_match_laws.Labelled.{lead, target, found, on_field, on_method}
-use Rattle.par_place.specs.par_place_laws.Instructions.{push, on_member, instruction, within}
-use Rattle.par_place.specs.par_place_laws.Instructions.{is_member}
-use Rattle.par_place.specs.par_place_laws.Instructions.{is_branch}
-use Rattle.par_place.specs.par_place_laws.Instructions as placed
-use Rattle.par_place.specs.par_place_laws.Named.{Names, full_name}
-use Rattle.par_place.specs.par_place_laws.Placed.{offset_of, offset_at, distance}
-use Rattle.par_place.specs.par_place_laws.Placeable.{FitsItem, stands_alone, is_lock_opcode}
+use Rattle.par_match_laws.specs.Labelled as matching
+use Rattle.par_match_laws.specs.Labelled.{lead, target, found, on_field, on_method}
+use Rattle.par_place.specs.par_code_form.Instructions.{push, on_member, instruction, within}
+use Rattle.par_place.specs.par_code_form.Instructions.{is_member}
+use Rattle.par_place.specs.par_code_form.Instructions.{is_branch}
+use Rattle.par_place.specs.par_code_form.Instructions as placed
+use Rattle.par_place.specs.par_code_form.PoolNames.{Names, full_name}
+use Rattle.par_place.specs.par_code_form.Placed.{offset_of, offset_at, distance}
+use Rattle.par_place.specs.par_code_form.Placeable.{FitsItem, stands_alone, is_lock_opcode}
 use Rattle.par_place.proofs.Standing.{placed_stand}
-use Rattle.par_naming_laws.specs.Naming.{naming_of, class_of_name, field_of_name, method_of_name}
-use Rattle.par_relocation_laws.specs.Relocated.{Places, Kin}
+use Rattle.par_match_laws.specs.Naming.{naming_of, class_of_name, field_of_name, method_of_name}
+use Rattle.par_placed_run_laws.specs.Relocated.{Places, Kin}
 use Rattle.par_placed_run_laws.specs.Laid.{bare, IsLaid, program}
 use Rattle.par_placed_run_laws.proofs.Positions.{there, beside, IsBeside, next_offset}
 use Rattle.par_placed_run_laws.proofs.Positions.{target_offset}

@@ -1,3 +1,4 @@
+pub mod Placed
 mod Positions
 pub mod Walk
 mod Locks

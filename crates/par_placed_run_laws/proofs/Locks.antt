@@ -13,8 +13,8 @@ use Rattle.par_base.specs.Names.{is_digit}
 use Rattle.par_base.specs.Numbers.{with_digit, value, has_leading_zero}
 use Rattle.par_place.specs.par_code_form.par_completes.par_lexer.Pieces.{begins}
 use Rattle.par_base.specs.Numbers.{is_decimal, magnitude_of}
-use Rattle.par_relocation_laws.specs.par_link.Builtins.{lock_number}
-use Rattle.par_place.specs.par_place_laws.Named.{lock_field}
+use Rattle.par_step_laws.specs.par_link.Builtins.{lock_number}
+use Rattle.par_place.specs.par_code_form.PoolNames.{lock_field}
 
 -- digits that write a number, the first of which is no 0 but that of the number 0
 record Writes (n : ℕ) (ds : List ℕ) : Type 0 where

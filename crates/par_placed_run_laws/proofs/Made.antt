@@ -18,23 +18,23 @@ use Rattle.par_index.proofs.Places.{position-within}
 use Rattle.par_values.specs.declared.link.ClassLink.{ClassLink}
 use Rattle.par_values.specs.declared.link.Link.TheVariants as link
 use Rattle.par_values.specs.Areas.{Name}
-use Rattle.par_relocation_laws.specs.par_single.Members.{own_name, own_names, text_of}
-use Rattle.par_relocation_laws.specs.par_link.Builtins as builtins
-use Rattle.par_relocation_laws.specs.par_link.Linked.{AreLinked}
-use Rattle.par_relocation_laws.specs.par_link.Named.{class_of, class_place, class_named, named_by}
-use Rattle.par_relocation_laws.specs.par_link.Order.{at, member_fault, description_fault}
-use Rattle.par_relocation_laws.specs.par_link.Order.{constant_fault}
-use Rattle.par_relocation_laws.specs.par_link.Order.{code_fault}
-use Rattle.par_relocation_laws.specs.par_link.Order.{file_fault, ◌or◌}
-use Rattle.par_relocation_laws.specs.par_link.Rules.{is_of, is_nothing}
-use Rattle.par_relocation_laws.proofs.par_link.Faultless.{or-none, map-none, each-unbroken}
-use Rattle.par_relocation_laws.proofs.par_link.Passing.{same_text}
-use Rattle.par_relocation_laws.specs.par_step_laws.Methods.{pool_of, class_pool, method_code}
+use Rattle.par_step_laws.specs.par_single.Members.{own_name, own_names, text_of}
+use Rattle.par_step_laws.specs.par_link.Builtins as builtins
+use Rattle.par_step_laws.specs.par_link.Linked.{AreLinked}
+use Rattle.par_step_laws.specs.par_link.Named.{class_of, class_place, class_named, named_by}
+use Rattle.par_step_laws.specs.par_link.Order.{at, member_fault, description_fault}
+use Rattle.par_step_laws.specs.par_link.Order.{constant_fault}
+use Rattle.par_step_laws.specs.par_link.Order.{code_fault}
+use Rattle.par_step_laws.specs.par_link.Order.{file_fault, ◌or◌}
+use Rattle.par_step_laws.specs.par_link.Rules.{is_of, is_nothing}
+use Rattle.par_step_laws.proofs.par_link.Faultless.{or-none, map-none, each-unbroken}
+use Rattle.par_step_laws.proofs.par_link.Passing.{same_text}
+use Rattle.par_step_laws.specs.Methods.{pool_of, class_pool, method_code}
 use Rattle.par_class.specs.declared.file.Catch.{Catch}
 use Rattle.par_place.specs.par_code_form.declared.labelled.Handler.{Handler}
-use Rattle.par_place.specs.par_place_laws.Placed.{offset_of, IsCatch}
-use Rattle.par_relocation_laws.specs.par_step_laws.Links.{link_of, class_link}
-use Rattle.par_place.specs.par_place_laws.Named.{is_builtin, full_name}
+use Rattle.par_place.specs.par_code_form.Placed.{offset_of, IsCatch}
+use Rattle.par_step_laws.specs.Links.{link_of, class_link}
+use Rattle.par_place.specs.par_code_form.PoolNames.{is_builtin, full_name}
 use Rattle.par_placed_run_laws.specs.Laid.{IsOfMade}
 use Rattle.par_placed_run_laws.specs.Made.{IsMade, HandlersNameMade, has_slash, IsSimple}
 use Rattle.par_placed_run_laws.specs.Made.{PlacedCodeIsLaid}

@@ -9,19 +9,19 @@ use Rattle.par_pool.specs.Entries.{IsAt, IsClassAt, IsNameTypeAt, IsFieldAt, IsM
 use Rattle.par_class.specs.declared.file.ClassFile.{ClassFile}
 use Rattle.par_values.specs.declared.link.Link.TheVariants as link
 use Rattle.par_values.specs.Areas.{Name}
-use Rattle.par_relocation_laws.specs.par_single.Members.{Member, text_of, text_at, class_name_of}
-use Rattle.par_relocation_laws.specs.par_single.Members.{class_name_at}
-use Rattle.par_relocation_laws.specs.par_single.Members.{member_of, member_at}
-use Rattle.par_relocation_laws.specs.par_link.entry.Named.TheVariants as named
-use Rattle.par_relocation_laws.specs.par_link.entry.Named.TheVariants.{Nothing}
-use Rattle.par_relocation_laws.specs.par_link.Builtins.{lock_or_nothing, builtin_field}
-use Rattle.par_relocation_laws.specs.par_link.Named.{class_named, field_of, field_declared}
-use Rattle.par_relocation_laws.specs.par_link.Named.{method_declared, named_by}
-use Rattle.par_relocation_laws.specs.par_link.Linked.{named_in, named_at}
-use Rattle.par_relocation_laws.specs.par_step_laws.Methods.{pool_of, class_pool}
-use Rattle.par_relocation_laws.specs.par_step_laws.Links.{link_of, lock_link, number_or, link_at}
-use Rattle.par_place.specs.par_place_laws.Named.{LOCKS, LOCK_TYPE}
-use Rattle.par_place.specs.par_place_laws.Named as placed
+use Rattle.par_step_laws.specs.par_single.Members.{Member, text_of, text_at, class_name_of}
+use Rattle.par_step_laws.specs.par_single.Members.{class_name_at}
+use Rattle.par_step_laws.specs.par_single.Members.{member_of, member_at}
+use Rattle.par_step_laws.specs.par_link.entry.Named.TheVariants as named
+use Rattle.par_step_laws.specs.par_link.entry.Named.TheVariants.{Nothing}
+use Rattle.par_step_laws.specs.par_link.Builtins.{lock_or_nothing, builtin_field}
+use Rattle.par_step_laws.specs.par_link.Named.{class_named, field_of, field_declared}
+use Rattle.par_step_laws.specs.par_link.Named.{method_declared, named_by}
+use Rattle.par_step_laws.specs.par_link.Linked.{named_in, named_at}
+use Rattle.par_step_laws.specs.Methods.{pool_of, class_pool}
+use Rattle.par_step_laws.specs.Links.{link_of, lock_link, number_or, link_at}
+use Rattle.par_place.specs.par_code_form.PoolNames.{LOCKS, LOCK_TYPE}
+use Rattle.par_place.specs.par_code_form.PoolNames as placed
 use Rattle.par_placed_run_laws.proofs.Locks.{lock_named}
 
 abbrev pub member : (class name descriptor : Name) → Member

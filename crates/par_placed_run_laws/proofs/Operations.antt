@@ -19,8 +19,8 @@ use Rattle.par_values.specs.Reasons.{misgiven, is_result, unfit_result}
 use Rattle.par_values.specs.Effects.{Effect, Goes, Happens, Jumps, Calls, Throws, ThrowsObject}
 use Rattle.par_values.specs.Effects.{Returns, ReturnsWith, effect, called, called_on, field_read}
 use Rattle.par_values.specs.Effects.{field_written, thrown}
-use Rattle.par_relocation_laws.specs.par_engine_laws.Engine.{Found, Program, is_misreceived}
-use Rattle.par_relocation_laws.specs.Relocated.{Places, Shifts, Kin}
+use Rattle.par_match_laws.specs.Engine.{Found, Program, is_misreceived}
+use Rattle.par_placed_run_laws.specs.Relocated.{Places, Shifts, Kin}
 
 -- ---- what makes no jump
 

@@ -7,8 +7,8 @@ use Rattle.par_place.specs.par_code_form.declared.item.Item.{Item}
 use Rattle.par_place.specs.par_code_form.declared.item.Item.TheVariants.{Label, Op, Const, Jump}
 use Rattle.par_place.specs.par_code_form.declared.item.Item.TheVariants.{Member}
 use Rattle.par_place.specs.par_code_form.declared.item.Item.TheVariants.{ClassOp, LockOp}
-use Rattle.par_naming_laws.specs.par_match_laws.Labelled.{spot, lead, skip, target}
-use Rattle.par_place.specs.par_place_laws.Placed.{size, offset_of, offset_at}
+use Rattle.par_match_laws.specs.Labelled.{spot, lead, skip, target}
+use Rattle.par_place.specs.par_code_form.Placed.{size, offset_of, offset_at}
 
 pub drop_next : {A : Type 0} (xs : List A) (p : ℕ) (x : A) (rest : List A)
     → drop p xs ≡ x ∷ rest → drop (suc p) xs ≡ rest

@@ -7,25 +7,25 @@ use Rattle.std.proofs.lemmas.Slice.Zip.{AllZip-long}
 use Rattle.par_class.specs.declared.file.ClassFile.{ClassFile}
 use Rattle.par_values.specs.declared.value.MVal.{MVal}
 use Rattle.par_values.specs.declared.inputs.Inputs.{Inputs}
-use Rattle.par_relocation_laws.specs.par_single.Walk.{starts_at}
-use Rattle.par_relocation_laws.specs.par_step_laws.Methods.{class_pool, method_code}
-use Rattle.par_relocation_laws.specs.par_step_laws.State.{State, entered, start, main_place}
-use Rattle.par_relocation_laws.specs.par_step_laws.State.{frame_of}
-use Rattle.par_relocation_laws.specs.par_engine_laws.Engine.{Found, Program, run}
-use Rattle.par_relocation_laws.specs.par_engine_laws.Files.{of_files}
-use Rattle.par_relocation_laws.proofs.par_engine_laws.Bridge.{run-same}
+use Rattle.par_step_laws.specs.par_single.Walk.{starts_at}
+use Rattle.par_step_laws.specs.Methods.{class_pool, method_code}
+use Rattle.par_step_laws.specs.State.{State, entered, start, main_place}
+use Rattle.par_step_laws.specs.State.{frame_of}
+use Rattle.par_match_laws.specs.Engine.{Found, Program, run}
+use Rattle.par_match_laws.specs.Files.{of_files}
+use Rattle.par_match_laws.proofs.Bridge.{run-same}
 use Rattle.par_place.specs.par_code_form.declared.item.Item.{Item}
 use Rattle.par_place.specs.par_code_form.declared.item.Item.TheVariants.{Label, Op, Const, Jump}
 use Rattle.par_place.specs.par_code_form.declared.item.Item.TheVariants.{Member}
 use Rattle.par_place.specs.par_code_form.declared.item.Item.TheVariants.{ClassOp, LockOp}
 use Rattle.par_place.specs.par_code_form.declared.labelled.Labelled.{Labelled}
-use Rattle.par_naming_laws.specs.par_match_laws.Labelled.{skip, found, is_there, handled}
-use Rattle.par_place.specs.par_place_laws.Instructions.{is_instruction}
-use Rattle.par_place.specs.par_place_laws.Named.{Names}
-use Rattle.par_place.specs.par_place_laws.Placed.{offset_of, offset_at}
-use Rattle.par_naming_laws.specs.Naming.{naming_of}
-use Rattle.par_relocation_laws.specs.Relocated.{IsPlaced, there, moved_state, moved_to}
-use Rattle.par_relocation_laws.proofs.Placed as relocated
+use Rattle.par_match_laws.specs.Labelled.{skip, found, is_there, handled}
+use Rattle.par_place.specs.par_code_form.Instructions.{is_instruction}
+use Rattle.par_place.specs.par_code_form.PoolNames.{Names}
+use Rattle.par_place.specs.par_code_form.Placed.{offset_of, offset_at}
+use Rattle.par_match_laws.specs.Naming.{naming_of}
+use Rattle.par_placed_run_laws.specs.Relocated.{IsPlaced, there, moved_state, moved_to}
+use Rattle.par_placed_run_laws.proofs.Placed as relocated
 use Rattle.par_placed_run_laws.specs.Laid.{IsLaid, PlacedCodeRuns, program, begun}
 use Rattle.par_placed_run_laws.proofs.Positions as positions
 use Rattle.par_placed_run_laws.proofs.Positions.{skip_free}

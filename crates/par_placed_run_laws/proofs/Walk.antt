@@ -8,12 +8,12 @@ use Rattle.std.proofs.lemmas.List.Elements.{All-head, All-tail}
 use Rattle.par_instr.specs.declared.instr.Instr.{Instr}
 use Rattle.par_instr.specs.Spelling.{spelling, IsSpelled}
 use Rattle.par_instr.proofs.Spellings.{each_is_listed}
-use Rattle.par_relocation_laws.specs.par_single.Walk.{starts_after, starts_at, if_listed}
+use Rattle.par_step_laws.specs.par_single.Walk.{starts_after, starts_at, if_listed}
 use Rattle.par_place.specs.par_code_form.declared.item.Item.{Item}
-use Rattle.par_place.specs.par_place_laws.Instructions.{instruction, is_instruction}
-use Rattle.par_place.specs.par_place_laws.Placed.{bytes_of, IsWritable, size, offset_at, distance}
-use Rattle.par_place.specs.par_place_laws.Placed.{instructions}
-use Rattle.par_place.specs.par_place_laws.Placeable.{FitsItem}
+use Rattle.par_place.specs.par_code_form.Instructions.{instruction, is_instruction}
+use Rattle.par_place.specs.par_code_form.Placed.{bytes_of, IsWritable, size, offset_at, distance}
+use Rattle.par_place.specs.par_code_form.Placed.{instructions}
+use Rattle.par_place.specs.par_code_form.Placeable.{FitsItem}
 use Rattle.par_place.proofs.Sizes.{size_any, size_some}
 
 -- operand bytes are passed over

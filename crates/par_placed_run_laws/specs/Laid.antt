@@ -7,17 +7,17 @@ use Rattle.par_values.specs.declared.link.ClassLink.{ClassLink}
 use Rattle.par_values.specs.declared.link.Link.TheVariants as link
 use Rattle.par_values.specs.declared.inputs.Inputs.{Inputs}
 use Rattle.par_values.specs.Areas.{first_locals}
-use Rattle.par_relocation_laws.specs.par_secrecy.Shows.{IsFine}
-use Rattle.par_relocation_laws.specs.par_step_laws.Methods.{class_pool, method_code, method_name}
-use Rattle.par_relocation_laws.specs.par_step_laws.State.{State, entered, start, main_place}
-use Rattle.par_relocation_laws.specs.par_step_laws.Run as files_run
-use Rattle.par_relocation_laws.specs.par_engine_laws.Engine.{Program, run}
+use Rattle.par_step_laws.specs.par_secrecy.Shows.{IsFine}
+use Rattle.par_step_laws.specs.Methods.{class_pool, method_code, method_name}
+use Rattle.par_step_laws.specs.State.{State, entered, start, main_place}
+use Rattle.par_step_laws.specs.Run as files_run
+use Rattle.par_match_laws.specs.Engine.{Program, run}
 use Rattle.par_place.specs.par_code_form.declared.labelled.Labelled.{Labelled}
 use Rattle.par_place.specs.par_code_form.declared.labelled.Handler.{Handler}
-use Rattle.par_naming_laws.specs.par_match_laws.Labelled.{of_labelled}
-use Rattle.par_place.specs.par_place_laws.Placed.{IsPlaced}
-use Rattle.par_place.specs.par_place_laws.Placeable.{FitsItem}
-use Rattle.par_naming_laws.specs.Naming.{class_of_name, naming_of, to_run}
+use Rattle.par_match_laws.specs.Labelled.{of_labelled}
+use Rattle.par_place.specs.par_code_form.Placed.{IsPlaced}
+use Rattle.par_place.specs.par_code_form.Placeable.{FitsItem}
+use Rattle.par_match_laws.specs.Naming.{class_of_name, naming_of, to_run}
 
 -- code without its attributes
 abbrev pub bare : CodeAttr → CodeAttr

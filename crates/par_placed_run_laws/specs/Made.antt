@@ -6,14 +6,14 @@ use Rattle.par_class.specs.declared.file.ClassFile.{ClassFile}
 use Rattle.par_values.specs.declared.link.ClassLink.{ClassLink}
 use Rattle.par_values.specs.declared.link.Link.TheVariants as link
 use Rattle.par_values.specs.Areas.{Name}
-use Rattle.par_relocation_laws.specs.par_link.Linked.{AreLinked}
-use Rattle.par_relocation_laws.specs.par_step_laws.Methods.{class_pool, method_code}
+use Rattle.par_step_laws.specs.par_link.Linked.{AreLinked}
+use Rattle.par_step_laws.specs.Methods.{class_pool, method_code}
 use Rattle.par_place.specs.par_code_form.declared.labelled.Labelled.{Labelled}
 use Rattle.par_place.specs.par_code_form.declared.labelled.Handler.{Handler}
-use Rattle.par_place.specs.par_place_laws.Named.{full_name}
-use Rattle.par_place.specs.par_place_laws.Placed.{IsPlaced}
-use Rattle.par_place.specs.par_place_laws.Placeable.{FitsItem}
-use Rattle.par_naming_laws.specs.Naming.{class_of_name}
+use Rattle.par_place.specs.par_code_form.PoolNames.{full_name}
+use Rattle.par_place.specs.par_code_form.Placed.{IsPlaced}
+use Rattle.par_place.specs.par_code_form.Placeable.{FitsItem}
+use Rattle.par_match_laws.specs.Naming.{class_of_name}
 use Rattle.par_placed_run_laws.specs.Laid.{bare, IsLaid}
 
 -- whether a byte is `/`, which no simple name has

@@ -3,21 +3,21 @@
 ghost use Rattle.std.specs.Prelude.{◌≡◌, ◌<◌, ◌≤◌, [], ◌∷◌, length, OnOk, IfOk, IfErr};
 ghost use Rattle.par_grammar.specs.Grammar as symbol;
 ghost use Rattle.par_grammar.specs.declared.sort.Sort.TheVariants as sort;
-ghost use Rattle.par_language_laws.specs.Reads.{Reads};
+ghost use Rattle.par_reader.specs.SourceLanguage.{Reads};
 ghost use Rattle.par_lexer.specs.declared.sign.TheConstants as signs;
-ghost use Rattle.par_language_laws.specs.par_reader.Reads.{IsOf, input};
+ghost use Rattle.par_reader.specs.Reads.{IsOf, input};
 ghost use Rattle.par_tree.specs.Grammar as g;
 ghost use Rattle.par_tree.specs.Values as value;
 ghost use Rattle.par_policy_reader.specs.Reads.{the_idents};
 
 use par_grammar::sort::Sort;
-use par_language_laws::Paragon;
-use par_language_laws::par_reader::cursor::Cursor;
-use par_language_laws::par_reader::error::ParseError;
 use par_lexer::list::List;
 use par_lexer::name::Name;
 use par_lexer::sign;
 use par_lexer::token::{Kind, Token};
+use par_reader::cursor::Cursor;
+use par_reader::error::ParseError;
+use par_reader::source_language::Paragon;
 use par_tree::ident::Ident;
 use std::alloc::Global;
 

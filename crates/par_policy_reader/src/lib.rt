@@ -11,5 +11,4 @@ pub mod lock;
 pub mod policy;
 pub mod types;
 
-pub use par_language_laws;
-pub use par_language_laws::par_reader;
+pub use par_reader;

@@ -3,18 +3,18 @@
 ghost use Rattle.std.specs.Prelude.{◌≡◌, ◌<◌, ◌≤◌, [], ◌∷◌, length, OnOk};
 ghost use Rattle.par_grammar.specs.Grammar as symbol;
 ghost use Rattle.par_grammar.specs.declared.sort.Sort.TheVariants as sort;
-ghost use Rattle.par_language_laws.specs.Reads.{Reads};
+ghost use Rattle.par_reader.specs.SourceLanguage.{Reads};
 ghost use Rattle.par_lexer.specs.declared.word.TheConstants as words;
-ghost use Rattle.par_language_laws.specs.par_reader.Reads.{input};
+ghost use Rattle.par_reader.specs.Reads.{input};
 ghost use Rattle.par_tree.specs.Grammar as g;
 ghost use Rattle.par_policy_reader.specs.Reads.{a_flag, a_type};
 
 use crate::ident::ident;
 use par_grammar::sort::Sort;
-use par_language_laws::Paragon;
-use par_language_laws::par_reader::cursor::Cursor;
-use par_language_laws::par_reader::error::ParseError;
 use par_lexer::word;
+use par_reader::cursor::Cursor;
+use par_reader::error::ParseError;
+use par_reader::source_language::Paragon;
 use par_tree::types::TypeTree;
 use std::alloc::Global;
 

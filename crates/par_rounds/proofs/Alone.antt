@@ -1,8 +1,8 @@
 -- Nodes without parts are left as they are entered.
 use Rattle.std.proofs.Common.{◌≡◌, ℕ, Some, [], sym, ap}
 use Rattle.par_bits.specs.Sets.{Set, none}
-use Rattle.par_flow_laws.specs.Lattice.{numbers}
-use Rattle.par_flow_laws.specs.Rules.{Worth, Entry, node, Done, Worths, goes_on, way, worth}
+use Rattle.par_program_laws.specs.Lattice.{numbers}
+use Rattle.par_program_laws.specs.Rules.{Worth, Entry, node, Done, Worths, goes_on, way, worth}
 use Rattle.par_pass_laws.specs.Exits.{Way}
 use Rattle.par_pass_laws.specs.Pass.{HeadWays, pass, pass_all}
 use Rattle.par_rounds.specs.Passes.{left_as}

@@ -2,12 +2,12 @@
 use Rattle.std.proofs.Common.{◌≡◌, ℕ, Bool, Option, Some, None, List, [], ◌∷◌, ◌++◌, refl, sym, ap}
 use Rattle.std.proofs.Common.{◌∙◌, subst}
 use Rattle.par_bits.specs.Sets.{Set, has, none, union}
-use Rattle.par_flow_laws.specs.Lattice.{numbers}
-use Rattle.par_flow_laws.specs.Kinds.{Kind, normal, absorbed, Absorber}
-use Rattle.par_flow_laws.specs.Facts.{Fact}
-use Rattle.par_flow_laws.specs.Rules.{From, Worth, Node, node, Rules, Done, Part, Test, Heads}
-use Rattle.par_flow_laws.specs.Rules.{Leaves}
-use Rattle.par_flow_laws.specs.Rules.{Worths, spot, way, worth}
+use Rattle.par_program_laws.specs.Lattice.{numbers}
+use Rattle.par_program_laws.specs.Kinds.{Kind, normal, absorbed, Absorber}
+use Rattle.par_program_laws.specs.Facts.{Fact}
+use Rattle.par_program_laws.specs.Rules.{From, Worth, Node, node, Rules, Done, Part, Test, Heads}
+use Rattle.par_program_laws.specs.Rules.{Leaves}
+use Rattle.par_program_laws.specs.Rules.{Worths, spot, way, worth}
 use Rattle.par_pass_laws.specs.par_except.declared.way.Way as code_way
 use Rattle.par_pass_laws.specs.par_except.Seen.{may_see}
 use Rattle.par_pass_laws.specs.Exits.{Way, Exit, all, at, leaving, leave, restored}

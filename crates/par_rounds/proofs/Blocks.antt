@@ -3,12 +3,12 @@ use Rattle.std.proofs.Common.{◌≡◌, ℕ, zero, suc, ◌+◌, ◌<◌, Some,
 use Rattle.std.proofs.Common.{get_or, drop, refl, sym, ap, ◌∙◌, subst, arith, add-one}
 use Rattle.par_typed.specs.declared.stmt.TStmt.{TStmt}
 use Rattle.par_typed.specs.Shown.{does, all_do}
-use Rattle.par_flow_laws.specs.Lattice.{numbers}
-use Rattle.par_flow_laws.specs.Kinds.{Next, absorbed}
-use Rattle.par_flow_laws.specs.Declares.{Declares}
-use Rattle.par_flow_laws.specs.Ranges.{IsFromInRange}
-use Rattle.par_flow_laws.specs.Rules.{From, Entry, Done, Part, goes_on, spot, way}
-use Rattle.par_flow_laws.specs.Body.{sta, stas}
+use Rattle.par_program_laws.specs.Lattice.{numbers}
+use Rattle.par_program_laws.specs.Kinds.{Next, absorbed}
+use Rattle.par_program_laws.specs.Declares.{Declares}
+use Rattle.par_program_laws.specs.Ranges.{IsFromInRange}
+use Rattle.par_program_laws.specs.Rules.{From, Entry, Done, Part, goes_on, spot, way}
+use Rattle.par_program_laws.specs.Body.{sta, stas}
 use Rattle.par_nodes.specs.Starts.{start_at}
 use Rattle.par_nodes.proofs.Branches.{stas_none}
 use Rattle.par_pass_laws.specs.par_except.declared.way.Way as code_way

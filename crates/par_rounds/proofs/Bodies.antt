@@ -7,15 +7,15 @@ use Rattle.std.proofs.lemmas.List.Elements.{All-head, All-tail}
 use Rattle.par_bits.specs.Sets.{none, adding}
 use Rattle.par_typed.specs.declared.table.Table.{Table}
 use Rattle.par_typed.specs.Plain.{Body}
-use Rattle.par_flow_laws.specs.Lattice.{Lattice, numbers, policies, unseen}
-use Rattle.par_flow_laws.specs.Facts.{Facts}
-use Rattle.par_flow_laws.specs.Declares.{Declares, Method, declares}
-use Rattle.par_flow_laws.specs.Rules.{Node, node, Rules, Done, Part, Test, Heads, Leaves, Worths}
-use Rattle.par_flow_laws.specs.Rules.{spot}
-use Rattle.par_flow_laws.specs.Body.{sta}
-use Rattle.par_flow_laws.specs.Closed.{IsClosed, first, arriving, locals as entering}
-use Rattle.par_flow_laws.specs.Numbered.{next, next_by, IsNumbered, AreNumbered}
-use Rattle.par_flow_laws.specs.Ranges.{MOST, IsInRange, AreInRange}
+use Rattle.par_program_laws.specs.Lattice.{Lattice, numbers, policies, unseen}
+use Rattle.par_program_laws.specs.Facts.{Facts}
+use Rattle.par_program_laws.specs.Declares.{Declares, Method, declares}
+use Rattle.par_program_laws.specs.Rules.{Node, node, Rules, Done, Part, Test, Heads, Leaves, Worths}
+use Rattle.par_program_laws.specs.Rules.{spot}
+use Rattle.par_program_laws.specs.Body.{sta}
+use Rattle.par_program_laws.specs.Closed.{IsClosed, first, arriving, locals as entering}
+use Rattle.par_program_laws.specs.Numbered.{next, next_by, IsNumbered, AreNumbered}
+use Rattle.par_program_laws.specs.Ranges.{MOST, IsInRange, AreInRange}
 use Rattle.par_pass_laws.specs.par_except.Weight.{IsSmall}
 use Rattle.par_pass_laws.specs.Exits.{Way}
 use Rattle.par_pass_laws.specs.Pass.{pass}

@@ -6,12 +6,12 @@ use Rattle.std.specs.declared.alloc.Global.{Global}
 use Rattle.par_typed.specs.declared.expr.TExpr.{TExpr}
 use Rattle.par_typed.specs.Shown.{shown, all_shown, receiver}
 use Rattle.par_typed.specs.Plain.{MayTExp, Absent, Present, TExps, NoExps, More}
-use Rattle.par_flow_laws.specs.Lattice.{numbers}
-use Rattle.par_flow_laws.specs.Kinds.{Next, absorbed}
-use Rattle.par_flow_laws.specs.Declares.{Declares}
-use Rattle.par_flow_laws.specs.Ranges.{IsFromInRange}
-use Rattle.par_flow_laws.specs.Rules.{From, Entry, Rules, Part, spot, way}
-use Rattle.par_flow_laws.specs.Body.{past, exp, args}
+use Rattle.par_program_laws.specs.Lattice.{numbers}
+use Rattle.par_program_laws.specs.Kinds.{Next, absorbed}
+use Rattle.par_program_laws.specs.Declares.{Declares}
+use Rattle.par_program_laws.specs.Ranges.{IsFromInRange}
+use Rattle.par_program_laws.specs.Rules.{From, Entry, Rules, Part, spot, way}
+use Rattle.par_program_laws.specs.Body.{past, exp, args}
 use Rattle.par_nodes.specs.Starts.{start_at, behind, call_start}
 use Rattle.par_pass_laws.specs.par_except.declared.way.Way as code_way
 use Rattle.par_pass_laws.specs.par_except.Seen.{seen}

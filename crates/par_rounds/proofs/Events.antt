@@ -1,8 +1,8 @@
 -- Events one after the other.
 use Rattle.std.proofs.Common.{◌≡◌, ◌<◌, ◌≤◌, Bool, true, false, List, [], ◌∷◌, ◌++◌, set, refl, sym}
 use Rattle.std.proofs.Common.{ap, ◌∙◌, subst, arith}
-use Rattle.par_flow_laws.specs.Lattice.{numbers}
-use Rattle.par_flow_laws.specs.Facts.{Fact}
+use Rattle.par_program_laws.specs.Lattice.{numbers}
+use Rattle.par_program_laws.specs.Facts.{Fact}
 use Rattle.par_pass_laws.specs.Pass.{HeadWays, Event, Row, Into}
 use Rattle.par_pass_laws.specs.Written.{written, AllFit}
 use Rattle.par_rounds.specs.declared.notes.Notes.{Notes}

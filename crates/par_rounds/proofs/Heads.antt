@@ -7,8 +7,8 @@ use Rattle.std.proofs.lemmas.Bool.Decides.{eqb_tells}
 use Rattle.std.proofs.lemmas.List.Elements.{All-push}
 use Rattle.par_bits.specs.Sets.{has}
 use Rattle.par_bits.proofs.Sizes.{size_at_most}
-use Rattle.par_flow_laws.specs.Lattice.{numbers}
-use Rattle.par_flow_laws.specs.Ways.{MayFlow}
+use Rattle.par_program_laws.specs.Lattice.{numbers}
+use Rattle.par_program_laws.specs.Ways.{MayFlow}
 use Rattle.par_pass_laws.specs.par_except.declared.way.Way as code
 use Rattle.par_pass_laws.specs.par_except.Joins.{join, may_join}
 use Rattle.par_pass_laws.specs.par_except.Seen.{seen, may_see, MayHaveLocals}

@@ -6,13 +6,13 @@ use Rattle.std.specs.declared.alloc.Global.{Global}
 use Rattle.par_typed.specs.Plain.{MayTSta, NoElse, Otherwise}
 use Rattle.par_typed.specs.declared.stmt.TStmt.{TStmt}
 use Rattle.par_typed.specs.Shown.{does, otherwise}
-use Rattle.par_flow_laws.specs.Lattice.{numbers}
-use Rattle.par_flow_laws.specs.Kinds.{Normal, Break, Continue, Next, Loop}
-use Rattle.par_flow_laws.specs.Ranges.{IsFromInRange}
-use Rattle.par_flow_laws.specs.Rules.{From, Entry, After, Node, Rules, Done, Part, Test, Heads}
-use Rattle.par_flow_laws.specs.Rules.{goes_on, spot, way}
-use Rattle.par_flow_laws.specs.Declares.{Declares}
-use Rattle.par_flow_laws.specs.Body.{past, tested, if_not, sta}
+use Rattle.par_program_laws.specs.Lattice.{numbers}
+use Rattle.par_program_laws.specs.Kinds.{Normal, Break, Continue, Next, Loop}
+use Rattle.par_program_laws.specs.Ranges.{IsFromInRange}
+use Rattle.par_program_laws.specs.Rules.{From, Entry, After, Node, Rules, Done, Part, Test, Heads}
+use Rattle.par_program_laws.specs.Rules.{goes_on, spot, way}
+use Rattle.par_program_laws.specs.Declares.{Declares}
+use Rattle.par_program_laws.specs.Body.{past, tested, if_not, sta}
 use Rattle.par_nodes.specs.Starts.{goes_first, else_rules}
 use Rattle.par_pass_laws.specs.par_except.declared.way.Way as code_way
 use Rattle.par_pass_laws.specs.Exits.{Way, all, leave}

@@ -2,10 +2,10 @@
 use Rattle.std.proofs.Common.{ℕ, zero, suc, cond, Option, Some, None, List, [], ◌∷◌, sym, subst}
 use Rattle.std.proofs.Common.{⊎_elim}
 use Rattle.std.proofs.lemmas.Bool.Decides.{eqb_tells}
-use Rattle.par_flow_laws.specs.Lattice.{Lattice}
-use Rattle.par_flow_laws.specs.Ways as rules
-use Rattle.par_flow_laws.specs.Facts.{Facts}
-use Rattle.par_flow_laws.specs.Rules.{Node, Obeys, spot}
+use Rattle.par_program_laws.specs.Lattice.{Lattice}
+use Rattle.par_program_laws.specs.Ways as rules
+use Rattle.par_program_laws.specs.Facts.{Facts}
+use Rattle.par_program_laws.specs.Rules.{Node, Obeys, spot}
 use Rattle.par_pass_laws.specs.par_except.Joins.{may_join}
 use Rattle.par_pass_laws.specs.Exits.{Way}
 use Rattle.par_pass_laws.specs.Pass.{HeadWays, Event, Row, Into, pass}

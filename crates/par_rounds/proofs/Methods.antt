@@ -4,9 +4,9 @@ use Rattle.par_typed.specs.declared.table.Table.{Table}
 use Rattle.par_typed.specs.declared.table.MethodInfo.{MethodInfo}
 use Rattle.par_typed.specs.Members.{method_at}
 use Rattle.par_typed.specs.Plain.{Body}
-use Rattle.par_flow_laws.specs.Declares.{declares}
-use Rattle.par_flow_laws.specs.Ranges.{IsOrderly}
-use Rattle.par_flow_laws.specs.Orderly.{IsOrderlyBody}
+use Rattle.par_program_laws.specs.Declares.{declares}
+use Rattle.par_program_laws.specs.Ranges.{IsOrderly}
+use Rattle.par_program_laws.specs.Orderly.{IsOrderlyBody}
 
 -- the body is orderly over its locals
 pub orderly : (table : Table) (b : Body) (m : MethodInfo)

@@ -2,11 +2,11 @@
 use Rattle.std.proofs.Common.{◌≡◌, ℕ, ◌<◌, Option, None, List, [], ◌∷◌, ◌++◌, length, sym, subst}
 use Rattle.std.proofs.Common.{arith}
 use Rattle.std.proofs.lemmas.List.Elements.{All-push}
-use Rattle.par_flow_laws.specs.Kinds.{Kind, Absorber}
-use Rattle.par_flow_laws.specs.Ranges.{IsFromInRange, IsWorthInRange}
-use Rattle.par_flow_laws.specs.Rules.{From, Worth, Node, node, Rules, Part, Test, Heads, Leaves}
-use Rattle.par_flow_laws.specs.Rules.{Worths}
-use Rattle.par_flow_laws.specs.Rules.{spot}
+use Rattle.par_program_laws.specs.Kinds.{Kind, Absorber}
+use Rattle.par_program_laws.specs.Ranges.{IsFromInRange, IsWorthInRange}
+use Rattle.par_program_laws.specs.Rules.{From, Worth, Node, node, Rules, Part, Test, Heads, Leaves}
+use Rattle.par_program_laws.specs.Rules.{Worths}
+use Rattle.par_program_laws.specs.Rules.{spot}
 use Rattle.par_pass_laws.specs.par_except.declared.way.Way.{Way}
 use Rattle.par_pass_laws.specs.par_except.Seen.{HasLocals}
 use Rattle.par_pass_laws.specs.Pass.{Event}

@@ -6,13 +6,13 @@ use Rattle.par_typed.specs.declared.stmt.TStmt.{TStmt}
 use Rattle.par_typed.specs.declared.stmt.TStmtKind.{TStmtKind}
 use Rattle.par_typed.specs.declared.stmt.TStmtKind.TheVariants as stmt
 use Rattle.par_typed.specs.Shown.{does, does_at, all_do}
-use Rattle.par_flow_laws.specs.Declares.{Declares}
-use Rattle.par_flow_laws.specs.Kinds.{Kind, Absorber}
-use Rattle.par_flow_laws.specs.Rules.{From, Worth, Node, node, Rules, Done, Part, Test, Heads}
-use Rattle.par_flow_laws.specs.Rules.{Entry, Leaves}
-use Rattle.par_flow_laws.specs.Rules.{Worths}
-use Rattle.par_flow_laws.specs.Body.{past, sta, stas}
-use Rattle.par_flow_laws.specs.Numbered.{next, next_by}
+use Rattle.par_program_laws.specs.Declares.{Declares}
+use Rattle.par_program_laws.specs.Kinds.{Kind, Absorber}
+use Rattle.par_program_laws.specs.Rules.{From, Worth, Node, node, Rules, Done, Part, Test, Heads}
+use Rattle.par_program_laws.specs.Rules.{Entry, Leaves}
+use Rattle.par_program_laws.specs.Rules.{Worths}
+use Rattle.par_program_laws.specs.Body.{past, sta, stas}
+use Rattle.par_program_laws.specs.Numbered.{next, next_by}
 use Rattle.par_nodes.proofs.Statements.{block_made}
 
 module _ (rules : Rules) (n : ℕ) where

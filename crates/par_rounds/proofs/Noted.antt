@@ -8,9 +8,9 @@ use Rattle.std.proofs.lemmas.List.{length-set}
 use Rattle.std.proofs.lemmas.Bool.Decides.{eqb_tells}
 use Rattle.std.proofs.lemmas.List.Elements.{All-set, All-push}
 use Rattle.par_bits.specs.Sets.{Set, IsWithin, union, meet}
-use Rattle.par_flow_laws.specs.Lattice.{numbers}
-use Rattle.par_flow_laws.specs.Facts.{Fact, blank}
-use Rattle.par_flow_laws.specs.Ways.{Flows, MayFlow}
+use Rattle.par_program_laws.specs.Lattice.{numbers}
+use Rattle.par_program_laws.specs.Facts.{Fact, blank}
+use Rattle.par_program_laws.specs.Ways.{Flows, MayFlow}
 use Rattle.par_pass_laws.specs.par_except.declared.way.Way as code
 use Rattle.par_pass_laws.specs.par_except.Joins.{join, may_join}
 use Rattle.par_pass_laws.specs.par_except.Seen.{may_see, MayHaveLocals}

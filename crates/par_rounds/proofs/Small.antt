@@ -6,20 +6,20 @@ use Rattle.std.specs.Prelude.{nat_eq}
 use Rattle.std.proofs.lemmas.Bool.{ltb-true, lt-ltb, eqb-true}
 use lib.Dec.{ltb}
 use Rattle.par_bits.specs.Sets.{Set, none, adding, union, IsWithin}
-use Rattle.par_flow_laws.specs.Lattice.{numbers}
-use Rattle.par_flow_laws.specs.Kinds as kind
-use Rattle.par_flow_laws.specs.Kinds.{Kind, Normal}
-use Rattle.par_flow_laws.specs.Ways.{Way, Flows, MayFlow, moved, put, raised, assigned, opened}
-use Rattle.par_flow_laws.specs.Ways.{shut}
-use Rattle.par_flow_laws.specs.Facts.{Fact, Facts}
-use Rattle.par_flow_laws.specs.Ranges.{IsFromInRange, IsWorthInRange}
-use Rattle.par_flow_laws.specs.Rules.{From, Entry, After, Tested, Raised, Opened, Shut, Assigned}
-use Rattle.par_flow_laws.specs.Rules.{Worth}
-use Rattle.par_flow_laws.specs.Rules.{Given, Held, Value}
-use Rattle.par_flow_laws.specs.Rules.{Node, node, Rules, Done, Part, Test, Heads, Leaves, Worths}
-use Rattle.par_flow_laws.specs.Rules.{way}
-use Rattle.par_flow_laws.specs.Rules.{worth, part_at, spot}
-use Rattle.par_flow_laws.specs.Rules.{MayLeave, MayHead, Obeys, ObeysAll}
+use Rattle.par_program_laws.specs.Lattice.{numbers}
+use Rattle.par_program_laws.specs.Kinds as kind
+use Rattle.par_program_laws.specs.Kinds.{Kind, Normal}
+use Rattle.par_program_laws.specs.Ways.{Way, Flows, MayFlow, moved, put, raised, assigned, opened}
+use Rattle.par_program_laws.specs.Ways.{shut}
+use Rattle.par_program_laws.specs.Facts.{Fact, Facts}
+use Rattle.par_program_laws.specs.Ranges.{IsFromInRange, IsWorthInRange}
+use Rattle.par_program_laws.specs.Rules.{From, Entry, After, Tested, Raised, Opened, Shut, Assigned}
+use Rattle.par_program_laws.specs.Rules.{Worth}
+use Rattle.par_program_laws.specs.Rules.{Given, Held, Value}
+use Rattle.par_program_laws.specs.Rules.{Node, node, Rules, Done, Part, Test, Heads, Leaves, Worths}
+use Rattle.par_program_laws.specs.Rules.{way}
+use Rattle.par_program_laws.specs.Rules.{worth, part_at, spot}
+use Rattle.par_program_laws.specs.Rules.{MayLeave, MayHead, Obeys, ObeysAll}
 use Rattle.par_pass_laws.specs.Pass.{Event, Row, Into, pass}
 use Rattle.par_pass_laws.specs.Low.{Stands, AreLow}
 use Rattle.par_pass_laws.specs.Low as low

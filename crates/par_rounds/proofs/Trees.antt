@@ -2,8 +2,8 @@
 use Rattle.std.proofs.Common.{◌≡◌, ap, sym, ◌∙◌}
 use Rattle.std.specs.declared.boxed.Box.{Box}
 use Rattle.std.specs.declared.alloc.Global.{Global}
-use Rattle.par_flow_laws.specs.Kinds.{Normal}
-use Rattle.par_flow_laws.specs.Rules as plain
+use Rattle.par_program_laws.specs.Kinds.{Normal}
+use Rattle.par_program_laws.specs.Rules as plain
 use Rattle.par_nodes.specs.declared.rule.Kind.{Kind}
 use Rattle.par_nodes.specs.declared.rule.Origin.{Origin}
 use Rattle.par_nodes.specs.declared.rule.Worth.{Worth}

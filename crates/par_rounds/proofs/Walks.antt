@@ -4,14 +4,14 @@ use Rattle.std.proofs.Common.{sym, ap, subst, arith}
 use Rattle.par_bits.specs.Sets.{has, none}
 use Rattle.par_typed.specs.Plain as typed
 use Rattle.par_typed.specs.Plain.{TExp, TSta, mark, point}
-use Rattle.par_flow_laws.specs.Lattice.{numbers}
-use Rattle.par_flow_laws.specs.Kinds.{Kind, Absorber, absorbed, normal}
-use Rattle.par_flow_laws.specs.Declares.{Declares}
-use Rattle.par_flow_laws.specs.Facts.{blank}
-use Rattle.par_flow_laws.specs.Ranges.{IsWorthInRange}
-use Rattle.par_flow_laws.specs.Rules.{From, Entry, Worth, Node, node, Rules, Done, Part, Worths}
-use Rattle.par_flow_laws.specs.Rules.{goes_on, spot, way}
-use Rattle.par_flow_laws.specs.Body.{exp, sta}
+use Rattle.par_program_laws.specs.Lattice.{numbers}
+use Rattle.par_program_laws.specs.Kinds.{Kind, Absorber, absorbed, normal}
+use Rattle.par_program_laws.specs.Declares.{Declares}
+use Rattle.par_program_laws.specs.Facts.{blank}
+use Rattle.par_program_laws.specs.Ranges.{IsWorthInRange}
+use Rattle.par_program_laws.specs.Rules.{From, Entry, Worth, Node, node, Rules, Done, Part, Worths}
+use Rattle.par_program_laws.specs.Rules.{goes_on, spot, way}
+use Rattle.par_program_laws.specs.Body.{exp, sta}
 use Rattle.par_pass_laws.specs.par_except.declared.way.Way as code_way
 use Rattle.par_pass_laws.specs.Exits.{Way}
 use Rattle.par_pass_laws.specs.Pass as plain

@@ -2,11 +2,11 @@
 use Rattle.std.specs.Prelude.{List}
 use Rattle.par_typed.specs.declared.table.Table.{Table}
 use Rattle.par_typed.specs.Plain.{Body}
-use Rattle.par_flow_laws.specs.Lattice.{Seen, numbers, policies, unseen}
-use Rattle.par_flow_laws.specs.Facts.{Facts}
-use Rattle.par_flow_laws.specs.Declares.{declares}
-use Rattle.par_flow_laws.specs.Body.{sta}
-use Rattle.par_flow_laws.specs.Closed.{IsClosed}
+use Rattle.par_program_laws.specs.Lattice.{Seen, numbers, policies, unseen}
+use Rattle.par_program_laws.specs.Facts.{Facts}
+use Rattle.par_program_laws.specs.Declares.{declares}
+use Rattle.par_program_laws.specs.Body.{sta}
+use Rattle.par_program_laws.specs.Closed.{IsClosed}
 use Rattle.par_pass_laws.specs.Seens.{seen_as}
 use Rattle.par_pass_laws.specs.Possible.{HasPossibleExits}
 use Rattle.par_pass_laws.specs.Result.{AreLeast, AreExact}

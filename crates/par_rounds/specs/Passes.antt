@@ -2,12 +2,12 @@
 use Rattle.std.specs.Prelude.{◌≡◌, ◌<◌, ℕ, Bool, Option, Some, None, List, [], ◌∷◌}
 use Rattle.std.specs.Prelude.{◌++◌, drop, length}
 use Rattle.par_bits.specs.Sets.{Set, has}
-use Rattle.par_flow_laws.specs.Kinds.{Kind, Normal}
-use Rattle.par_flow_laws.specs.Ranges.{IsFromInRange, IsWorthInRange}
-use Rattle.par_flow_laws.specs.Rules.{Node, node, Rules, Done, Part, Test, Heads, Leaves, Worths}
-use Rattle.par_flow_laws.specs.Rules.{From, Entry, spot}
-use Rattle.par_flow_laws.specs.Body.{args, stas}
-use Rattle.par_flow_laws.specs.Declares.{Declares}
+use Rattle.par_program_laws.specs.Kinds.{Kind, Normal}
+use Rattle.par_program_laws.specs.Ranges.{IsFromInRange, IsWorthInRange}
+use Rattle.par_program_laws.specs.Rules.{Node, node, Rules, Done, Part, Test, Heads, Leaves, Worths}
+use Rattle.par_program_laws.specs.Rules.{From, Entry, spot}
+use Rattle.par_program_laws.specs.Body.{args, stas}
+use Rattle.par_program_laws.specs.Declares.{Declares}
 use Rattle.par_typed.specs.declared.stmt.TStmt.{TStmt}
 use Rattle.par_typed.specs.Shown.{all_do, all_shown}
 use Rattle.par_typed.specs.declared.expr.TExpr.{TExpr}

@@ -1,6 +1,6 @@
 -- Rounds of passes, and what the last one leaves.
 use Rattle.std.specs.Prelude.{◌≡◌, ◌<◌, ℕ, zero, suc, true, false, Option, None, List, length}
-use Rattle.par_flow_laws.specs.Rules.{Node}
+use Rattle.par_program_laws.specs.Rules.{Node}
 use Rattle.par_pass_laws.specs.par_except.declared.way.Way as code
 use Rattle.par_pass_laws.specs.Exits.{Way}
 use Rattle.par_pass_laws.specs.Pass.{HeadWays, Event, pass}

@@ -2,12 +2,12 @@
 ghost use Rattle.std.specs.Prelude.{◌≡◌, ◌<◌, Some, IfOk, length, slice_get};
 ghost use Rattle.std.specs.Option.{option_copied};
 ghost use Rattle.par_typed.specs.Shown as shown;
-ghost use Rattle.par_flow_laws.specs.Declares.{declares, method_of};
-ghost use Rattle.par_flow_laws.specs.Ranges.{IsOrderly};
+ghost use Rattle.par_program_laws.specs.Declares.{declares, method_of};
+ghost use Rattle.par_program_laws.specs.Ranges.{IsOrderly};
 ghost use Rattle.par_pass_laws.specs.Written.{table as by_point};
 ghost use Rattle.par_ways.specs.Seen.{seen_facts, AreRowsWide};
 ghost use Rattle.par_rounds.specs.Bodies.{AreLeastClosed};
-ghost use Rattle.par_flow_laws.specs.Orderly.{locals_in, IsOrderlyBody};
+ghost use Rattle.par_program_laws.specs.Orderly.{locals_in, IsOrderlyBody};
 ghost use Rattle.par_typed.specs.Members.{methods_in};
 
 use crate::next::points_of;

@@ -1,9 +1,9 @@
 // How many points a body has.
 ghost use Rattle.std.specs.Prelude.{◌≡◌, IfOk};
 ghost use Rattle.par_typed.specs.Shown.{does};
-ghost use Rattle.par_flow_laws.specs.Body.{sta};
-ghost use Rattle.par_flow_laws.specs.Declares.{declares};
-ghost use Rattle.par_flow_laws.specs.Numbered.{next, next_by};
+ghost use Rattle.par_program_laws.specs.Body.{sta};
+ghost use Rattle.par_program_laws.specs.Declares.{declares};
+ghost use Rattle.par_program_laws.specs.Numbered.{next, next_by};
 ghost use Rattle.par_nodes.specs.Seen.{seen_node, seen_rules};
 
 use par_base::memory::NoMemory;

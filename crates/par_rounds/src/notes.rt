@@ -1,8 +1,8 @@
 // What a pass notes.
 ghost use Rattle.std.specs.Prelude.{◌≡◌, ◌<◌, ℕ, false, [], ◌∷◌, OnOk, IfOk, length};
 ghost use Rattle.par_bits.specs.Sets.{has};
-ghost use Rattle.par_flow_laws.specs.Lattice.{numbers};
-ghost use Rattle.par_flow_laws.specs.Facts.{blank};
+ghost use Rattle.par_program_laws.specs.Lattice.{numbers};
+ghost use Rattle.par_program_laws.specs.Facts.{blank};
 ghost use Rattle.par_pass_laws.specs.par_except.Seen.{may_see, seen, HasLocals, MayHaveLocals};
 ghost use Rattle.par_pass_laws.specs.Exits.{at};
 ghost use Rattle.par_pass_laws.specs.Pass.{Row, Into};

@@ -1,11 +1,11 @@
 // One pass over a node.
 ghost use Rattle.std.specs.Prelude.{◌≡◌, ℕ, [], ◌∷◌, ◌++◌, List, OnOk, IfOk, None, length};
 ghost use Rattle.par_bits.specs.Sets.{has, none, union};
-ghost use Rattle.par_flow_laws.specs.Kinds.{absorbed, normal};
-ghost use Rattle.par_flow_laws.specs.Lattice.{numbers};
-ghost use Rattle.par_flow_laws.specs.Ranges.{IsFromInRange, IsWorthInRange};
-ghost use Rattle.par_flow_laws.specs.Rules.{spot, way as way_from};
-ghost use Rattle.par_flow_laws.specs.Rules.{worth as worth_of};
+ghost use Rattle.par_program_laws.specs.Kinds.{absorbed, normal};
+ghost use Rattle.par_program_laws.specs.Lattice.{numbers};
+ghost use Rattle.par_program_laws.specs.Ranges.{IsFromInRange, IsWorthInRange};
+ghost use Rattle.par_program_laws.specs.Rules.{spot, way as way_from};
+ghost use Rattle.par_program_laws.specs.Rules.{worth as worth_of};
 ghost use Rattle.par_nodes.specs.Seen.{seen_absorber, seen_kind, seen_node, seen_origin};
 ghost use Rattle.par_nodes.specs.Seen.{seen_rules, seen_worth};
 ghost use Rattle.par_pass_laws.specs.par_except.Seen.{may_see, seen, HasLocals, MayHaveLocals};

@@ -1,8 +1,8 @@
 // Rounds of passes, until one raises no head.
 ghost use Rattle.std.specs.Prelude.{◌≡◌, ℕ, IfOk, length};
 ghost use Rattle.par_typed.specs.Shown.{does};
-ghost use Rattle.par_flow_laws.specs.Body.{sta};
-ghost use Rattle.par_flow_laws.specs.Declares.{declares};
+ghost use Rattle.par_program_laws.specs.Body.{sta};
+ghost use Rattle.par_program_laws.specs.Declares.{declares};
 ghost use Rattle.par_pass_laws.specs.par_except.Seen.{seen};
 ghost use Rattle.par_pass_laws.specs.Pass.{pass};
 ghost use Rattle.par_pass_laws.specs.Written.{AllFit};

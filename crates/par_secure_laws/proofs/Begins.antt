@@ -12,8 +12,8 @@ use Rattle.par_typed.specs.declared.table.ChannelInfo.{ChannelInfo}
 use Rattle.par_typed.specs.declared.table.MethodInfo.{MethodInfo}
 use Rattle.par_typed.specs.declared.table.ClassInfo.{ClassInfo}
 use Rattle.par_typed.specs.declared.program.Typed.{Typed}
-use Rattle.par_flow_laws.specs.Declares.{declares, method_of, channels_of}
-use Rattle.par_flow_laws.specs.Declares.{channel_of as channel_number}
+use Rattle.par_program_laws.specs.Declares.{declares, method_of, channels_of}
+use Rattle.par_program_laws.specs.Declares.{channel_of as channel_number}
 use Rattle.par_typed_laws.specs.Tables.{IsInRange, ClassInRange, ChannelInRange}
 use Rattle.par_typed_laws.specs.Beginning.{mains, HasMain}
 use Rattle.par_values.specs.declared.inputs.Inputs.{Inputs}
@@ -22,12 +22,12 @@ use Rattle.par_secrecy.specs.Shown.{sees, Alike}
 use Rattle.par_run_laws.specs.Names.{channel_named, channel_of, channel_member, place_of, main_of}
 use Rattle.par_run_laws.specs.Names.{main_in}
 use Rattle.par_run_laws.specs.Source.{given_to}
-use Rattle.par_in_step_laws.specs.par_alike.Subject.{input_of, inputs_in, input_channels, subject}
+use Rattle.par_alike.specs.Subject.{input_of, inputs_in, input_channels, subject}
 use Rattle.par_typed.specs.Members.{method_at, methods_in, channel_at, channels_in}
-use Rattle.par_body_laws.specs.Names.{IsChannel}
-use Rattle.par_in_step_laws.specs.par_two_run_laws.Watched.{IsThere}
-use Rattle.par_in_step_laws.proofs.par_two_run_laws.States.{Watch, Sees, declared}
-use Rattle.par_in_step_laws.proofs.CallPoints.{method_is}
+use Rattle.par_program_laws.specs.BodyNames.{IsChannel}
+use Rattle.par_alike.specs.Watched.{IsThere}
+use Rattle.par_alike.proofs.States.{Watch, Sees, declared}
+use Rattle.par_secure_laws.proofs.CallPoints.{method_is}
 use Rattle.par_secure_laws.proofs.Tables.{all_at, seen_in_range}
 
 -- ---- the method `main`

@@ -19,12 +19,12 @@ use Rattle.par_typed.specs.declared.table.ClassInfo.{ClassInfo}
 use Rattle.par_typed.specs.declared.table.MethodInfo.{MethodInfo}
 use Rattle.par_typed.specs.declared.table.Table.{Table}
 use Rattle.par_typed.specs.Plain.{Body, point}
-use Rattle.par_flow_laws.specs.Lattice.{numbers}
-use Rattle.par_flow_laws.specs.Kinds as kind
-use Rattle.par_flow_laws.specs.Facts.{Facts}
-use Rattle.par_flow_laws.specs.Declares.{Thrown, declares, method_of}
-use Rattle.par_flow_laws.specs.Closed.{IsClosed}
-use Rattle.par_flow_laws.specs.Body.{sta}
+use Rattle.par_program_laws.specs.Lattice.{numbers}
+use Rattle.par_program_laws.specs.Kinds as kind
+use Rattle.par_program_laws.specs.Facts.{Facts}
+use Rattle.par_program_laws.specs.Declares.{Thrown, declares, method_of}
+use Rattle.par_program_laws.specs.Closed.{IsClosed}
+use Rattle.par_program_laws.specs.Body.{sta}
 use Rattle.par_pass_laws.specs.Possible.{HasPossibleExits}
 use Rattle.par_pass_laws.proofs.Along.{closed_along}
 use Rattle.par_pass_laws.proofs.Possible.{possible_along}
@@ -35,25 +35,25 @@ use Rattle.par_check_laws.specs.Verdict.{KeepsNumbered}
 use Rattle.par_secrecy.specs.Shown.{Observer}
 use Rattle.par_run_laws.specs.Names.{body_of}
 use Rattle.par_typed.specs.Members.{methods_in, method_at}
-use Rattle.par_body_laws.specs.Locals.{set_by_call}
-use Rattle.par_body_laws.specs.Forms.{Setting, AsksLock}
-use Rattle.par_body_laws.specs.Uses.{IsNotThis}
+use Rattle.par_program_laws.specs.Locals.{set_by_call}
+use Rattle.par_program_laws.specs.Forms.{Setting, AsksLock}
+use Rattle.par_program_laws.specs.Uses.{IsNotThis}
 use Rattle.par_check_laws.specs.Checks.{lock_written}
-use Rattle.par_in_step_laws.proofs.Needs.{IsAsked}
-use Rattle.par_body_laws.specs.Proper.{IsProper}
+use Rattle.par_secure_laws.proofs.Needs.{IsAsked}
+use Rattle.par_program_laws.specs.Proper.{IsProper}
 use Rattle.par_typed_laws.specs.Bodied.{Spot, spot_of, methods_from, AreBodiesOf}
-use Rattle.par_in_step_laws.specs.par_two_run_laws.Watched.{IsThere}
+use Rattle.par_alike.specs.Watched.{IsThere}
 use Rattle.par_pass_laws.proofs.Along.{and_l, and_r}
 use Rattle.std.proofs.lemmas.Bool.{and_from}
-use Rattle.par_in_step_laws.proofs.CallPoints.{method_is}
-use Rattle.par_body_laws.specs.Makes.{StaMakes}
-use Rattle.par_in_step_laws.proofs.Needs.{StaReady}
-use Rattle.par_body_laws.proofs.Parts.{sta_names, sta_makes, sta_uses}
-use Rattle.par_in_step_laws.proofs.Controlled.{IsJump, a_break, a_continue, sta_cannot}
-use Rattle.par_in_step_laws.proofs.Points.{Obey, kept_app}
-use Rattle.par_in_step_laws.proofs.StaPoints.{only_possible}
-use Rattle.par_in_step_laws.proofs.Runs.{BodyOk, Known}
-use Rattle.par_in_step_laws.proofs.Ends.{ends_of}
+use Rattle.par_secure_laws.proofs.CallPoints.{method_is}
+use Rattle.par_program_laws.specs.Makes.{StaMakes}
+use Rattle.par_secure_laws.proofs.Needs.{StaReady}
+use Rattle.par_program_laws.proofs.Parts.{sta_names, sta_makes, sta_uses}
+use Rattle.par_secure_laws.proofs.Controlled.{IsJump, a_break, a_continue, sta_cannot}
+use Rattle.par_secure_laws.proofs.Points.{Obey, kept_app}
+use Rattle.par_secure_laws.proofs.StaPoints.{only_possible}
+use Rattle.par_secure_laws.proofs.Runs.{BodyOk, Known}
+use Rattle.par_secure_laws.proofs.Ends.{ends_of}
 use Rattle.par_secure_laws.specs.Explained.{IsPair, Here, Later}
 use Rattle.par_secure_laws.proofs.Watching.{watch, W, M, meant, all_kept}
 

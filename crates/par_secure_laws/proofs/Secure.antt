@@ -11,17 +11,17 @@ use Rattle.par_typed.specs.declared.program.TBody.{TBody}
 use Rattle.par_typed.specs.declared.program.Typed.{Typed}
 use Rattle.par_typed.specs.Plain.{Body}
 use Rattle.par_typed.specs.Shown.{bodies}
-use Rattle.par_flow_laws.specs.Lattice.{numbers, joined, seen_by}
-use Rattle.par_flow_laws.specs.Facts.{Facts}
-use Rattle.par_flow_laws.specs.Rules.{Holds}
+use Rattle.par_program_laws.specs.Lattice.{numbers, joined, seen_by}
+use Rattle.par_program_laws.specs.Facts.{Facts}
+use Rattle.par_program_laws.specs.Rules.{Holds}
 use Rattle.par_check_laws.specs.Asked.{Check}
 use Rattle.par_check_laws.specs.Checks.{checks}
 use Rattle.par_check_laws.specs.Keeps.{Satisfies, locks_in}
 use Rattle.par_check_laws.specs.Verdict.{KeepsNumbered, given}
 use Rattle.par_check_laws.proofs.Monotone.{joined_more}
-use Rattle.par_body_laws.specs.Proper.{IsProper}
-use Rattle.par_table_laws.specs.Births.{AreFieldsWritten}
-use Rattle.par_table_laws.specs.Declared.{IsWellDeclared}
+use Rattle.par_program_laws.specs.Proper.{IsProper}
+use Rattle.par_program_laws.specs.Births.{AreFieldsWritten}
+use Rattle.par_program_laws.specs.WellDeclared.{IsWellDeclared}
 use Rattle.par_typed_laws.specs.WellTyped.{IsWellTyped}
 use Rattle.par_check_laws.specs.Right.{AreAllRight}
 use Rattle.par_check_laws.specs.Accepted.{AreAllKept, IsAcceptedBy}
@@ -29,8 +29,8 @@ use Rattle.par_secrecy.specs.Runs.{Witnessed}
 use Rattle.par_secrecy.specs.Shown.{Observer, sees}
 use Rattle.par_secrecy.specs.Secure.{Secure}
 use Rattle.par_run_laws.specs.Source.{source}
-use Rattle.par_in_step_laws.specs.par_alike.Subject.{subject, policy_or_none}
-use Rattle.par_in_step_laws.proofs.Runs.{explained}
+use Rattle.par_alike.specs.Subject.{subject, policy_or_none}
+use Rattle.par_secure_laws.proofs.Runs.{explained}
 use Rattle.par_secure_laws.specs.Explained.{IsPair, Here, Later, Explains, IsExplained}
 use Rattle.par_secure_laws.proofs.Watching.{within_has, had, watch, explains}
 use Rattle.par_secure_laws.proofs.Bodies.{AreFacts, known}

@@ -7,11 +7,11 @@ use Rattle.std.proofs.lemmas.Bool.{lt-ltb}
 use Rattle.par_policy.specs.declared.clauses.Clause.{Clause}
 use Rattle.par_typed.specs.declared.table.FieldInfo.{FieldInfo}
 use Rattle.par_typed.specs.declared.table.ClassInfo.{ClassInfo}
-use Rattle.par_flow_laws.specs.Declares.{declares, channels_of, fields_of, birth_of}
-use Rattle.par_flow_laws.specs.Declares.{channel_of as channel_number, field_of as field_number}
-use Rattle.par_table_laws.specs.Names.{AreNamesApart, HasOwnNames}
-use Rattle.par_table_laws.specs.Births.{AreBirthsBelow, AreFieldsWritten, HasBirthBelow}
-use Rattle.par_table_laws.specs.Births.{IsBornBelow}
+use Rattle.par_program_laws.specs.Declares.{declares, channels_of, fields_of, birth_of}
+use Rattle.par_program_laws.specs.Declares.{channel_of as channel_number, field_of as field_number}
+use Rattle.par_program_laws.specs.TableNames.{AreNamesApart, HasOwnNames}
+use Rattle.par_program_laws.specs.Births.{AreBirthsBelow, AreFieldsWritten, HasBirthBelow}
+use Rattle.par_program_laws.specs.Births.{IsBornBelow}
 use Rattle.par_typed_laws.specs.Tables.{IsInRange, ClassInRange, ChannelInRange, FieldInRange}
 use Rattle.par_typed_laws.specs.Signatures.{HasBuiltIns}
 use Rattle.par_values.specs.declared.run.Event.{Event}
@@ -22,14 +22,14 @@ use Rattle.par_values.specs.declared.value.MVal.{MVal}
 use Rattle.par_values.specs.declared.value.MVal.TheVariants as value
 use Rattle.par_run_laws.specs.Names.{Name, Member, channel_named, field_named, made_named}
 use Rattle.par_run_laws.specs.Values.{shown_value, shown_object}
-use Rattle.par_in_step_laws.specs.par_alike.Subject.{event_policy, policy_at, channel_policy}
-use Rattle.par_in_step_laws.specs.par_alike.Subject.{field_policy, of_class}
+use Rattle.par_alike.specs.Subject.{event_policy, policy_at, channel_policy}
+use Rattle.par_alike.specs.Subject.{field_policy, of_class}
 use Rattle.par_typed.specs.Members.{field_at}
-use Rattle.par_body_laws.specs.Names.{IsField}
-use Rattle.par_in_step_laws.proofs.par_two_run_laws.States.{Watch, HasPolicy, IsMade, Sees}
-use Rattle.par_in_step_laws.proofs.par_two_run_laws.States.{declared}
-use Rattle.par_in_step_laws.proofs.par_two_run_laws.Leaves.{Sound, Throws}
-use Rattle.par_in_step_laws.proofs.CallPoints.{method_is}
+use Rattle.par_program_laws.specs.BodyNames.{IsField}
+use Rattle.par_alike.proofs.States.{Watch, HasPolicy, IsMade, Sees}
+use Rattle.par_alike.proofs.States.{declared}
+use Rattle.par_alike.proofs.Leaves.{Sound, Throws}
+use Rattle.par_secure_laws.proofs.CallPoints.{method_is}
 use Rattle.par_secure_laws.proofs.Tables.{all_at, found, channels_look, fields_look, classes_look}
 use Rattle.par_secure_laws.proofs.Tables.{distinct_front, Channel, channel_is, Field, field_is}
 use Rattle.par_secure_laws.proofs.Tables.{made_is, seen_in_range, built_in, method_below}

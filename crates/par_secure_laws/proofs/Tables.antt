@@ -15,19 +15,19 @@ use Rattle.par_typed.specs.declared.table.ThrowInfo.{ThrowInfo}
 use Rattle.par_typed.specs.declared.table.MethodInfo.{MethodInfo}
 use Rattle.par_typed.specs.declared.table.ClassInfo.{ClassInfo}
 use Rattle.par_typed.specs.declared.table.Table.{Table}
-use Rattle.par_flow_laws.specs.Lattice.{seen_by}
-use Rattle.par_flow_laws.specs.Declares.{Thrown, method_of, throws_of}
+use Rattle.par_program_laws.specs.Lattice.{seen_by}
+use Rattle.par_program_laws.specs.Declares.{Thrown, method_of, throws_of}
 use Rattle.par_typed_laws.specs.Tables.{ClassInRange, MethodInRange, ThrowInRange}
 use Rattle.par_typed_laws.specs.Signatures.{HasBuiltIns}
 use Rattle.par_secrecy.specs.Shown.{Observer, sees}
 use Rattle.par_run_laws.specs.Names.{Name, Member, channel_named, channel_of, channel_member}
 use Rattle.par_run_laws.specs.Names.{field_named, field_of, field_member, made_named, made_name}
 use Rattle.par_run_laws.specs.Names.{class_named, class_name}
-use Rattle.par_in_step_laws.specs.par_alike.Subject.{policy_at, policy_or_none, channel_policy}
-use Rattle.par_in_step_laws.specs.par_alike.Subject.{field_policy, of_class}
+use Rattle.par_alike.specs.Subject.{policy_at, policy_or_none, channel_policy}
+use Rattle.par_alike.specs.Subject.{field_policy, of_class}
 use Rattle.par_typed.specs.Members.{method_at, methods_in, field_at, fields_in}
-use Rattle.par_body_laws.specs.Names.{IsField}
-use Rattle.par_in_step_laws.proofs.par_two_run_laws.Leaves.{Throws, first_of, later_of}
+use Rattle.par_program_laws.specs.BodyNames.{IsField}
+use Rattle.par_alike.proofs.Leaves.{Throws, first_of, later_of}
 
 -- ---- lists
 

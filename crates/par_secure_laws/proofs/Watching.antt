@@ -14,12 +14,12 @@ use Rattle.par_policy.proofs.Filtered.{Contains-from_filter}
 use Rattle.par_bits.specs.Sets.{Set, IsWithin, union}
 use Rattle.par_typed.specs.declared.table.Table.{Table}
 use Rattle.par_typed.specs.Plain.{Body}
-use Rattle.par_flow_laws.specs.Lattice.{Lattice, IsSeenBelow, joined, numbers}
-use Rattle.par_flow_laws.specs.Ranges.{MOST}
-use Rattle.par_flow_laws.specs.Ways as ways
-use Rattle.par_flow_laws.specs.Ways.{Flows, MayFlow}
-use Rattle.par_flow_laws.specs.Facts.{Facts}
-use Rattle.par_flow_laws.specs.Rules.{way, Holds}
+use Rattle.par_program_laws.specs.Lattice.{Lattice, IsSeenBelow, joined, numbers}
+use Rattle.par_program_laws.specs.Ranges.{MOST}
+use Rattle.par_program_laws.specs.Ways as ways
+use Rattle.par_program_laws.specs.Ways.{Flows, MayFlow}
+use Rattle.par_program_laws.specs.Facts.{Facts}
+use Rattle.par_program_laws.specs.Rules.{way, Holds}
 use Rattle.par_pass_laws.proofs.Along.{StandsFor, stand_for, as_facts, as_all, as_may, as_way}
 use Rattle.par_pass_laws.proofs.Along.{way_lower}
 use Rattle.par_pass_laws.proofs.Order.{union_l, union_r}
@@ -30,13 +30,13 @@ use Rattle.par_check_laws.specs.Keeps.{Satisfies, locks_in}
 use Rattle.par_check_laws.specs.Verdict.{KeepsNumbered, given}
 use Rattle.par_secrecy.specs.Runs.{Witnessed}
 use Rattle.par_secrecy.specs.Shown.{Observer}
-use Rattle.par_in_step_laws.specs.par_two_run_laws.Watched.{watched}
+use Rattle.par_alike.specs.Watched.{watched}
 use Rattle.par_pass_laws.proofs.Along.{and_l, and_r}
 use Rattle.std.proofs.lemmas.Bool.{and_from}
-use Rattle.par_in_step_laws.proofs.par_two_run_laws.LockSets.{or_cases}
-use Rattle.par_in_step_laws.proofs.par_two_run_laws.States.{Watch, Explained}
-use Rattle.par_in_step_laws.specs.Release.{IsRelease}
-use Rattle.par_in_step_laws.proofs.Points.{Demand, Kept, AllKept}
+use Rattle.par_alike.proofs.LockSets.{or_cases}
+use Rattle.par_alike.proofs.States.{Watch, Explained}
+use Rattle.par_secure_laws.specs.Release.{IsRelease}
+use Rattle.par_secure_laws.proofs.Points.{Demand, Kept, AllKept}
 use Rattle.par_secure_laws.specs.Explained.{IsPair, Explains}
 
 -- facts over sets of numbers are closed as facts of one observer

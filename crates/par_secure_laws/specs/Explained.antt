@@ -5,10 +5,10 @@ use Rattle.par_policy.specs.Numbers.{has}
 use Rattle.par_bits.specs.Sets.{IsWithin}
 use Rattle.par_typed.specs.declared.table.Table.{Table}
 use Rattle.par_typed.specs.Plain.{Body}
-use Rattle.par_flow_laws.specs.Lattice.{numbers, joined}
-use Rattle.par_flow_laws.specs.Ways.{Way}
-use Rattle.par_flow_laws.specs.Facts.{Facts}
-use Rattle.par_flow_laws.specs.Rules.{way}
+use Rattle.par_program_laws.specs.Lattice.{numbers, joined}
+use Rattle.par_program_laws.specs.Ways.{Way}
+use Rattle.par_program_laws.specs.Facts.{Facts}
+use Rattle.par_program_laws.specs.Rules.{way}
 use Rattle.par_check_laws.specs.Asked.{Released, Check}
 use Rattle.par_check_laws.specs.Checks.{checks}
 use Rattle.par_values.specs.declared.inputs.Inputs.{Inputs}
@@ -16,8 +16,8 @@ use Rattle.par_secrecy.specs.Runs.{Witnessed}
 use Rattle.par_secrecy.specs.Subject.{Subject, Fits}
 use Rattle.par_secrecy.specs.Shown.{Observer, sees, shown, Alike}
 use Rattle.par_secrecy.specs.Secure.{events}
-use Rattle.par_in_step_laws.specs.par_alike.Subject.{policy_at}
-use Rattle.par_in_step_laws.specs.Release.{IsRelease}
+use Rattle.par_alike.specs.Subject.{policy_at}
+use Rattle.par_secure_laws.specs.Release.{IsRelease}
 
 -- the body and the facts stand at the same place of the lists
 pub data IsPair (b : Body) (f : Facts numbers) : List Body → List (Facts numbers) → Type 0 where

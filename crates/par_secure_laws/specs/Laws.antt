@@ -2,14 +2,14 @@
 use Rattle.std.specs.Prelude.{List}
 use Rattle.par_typed.specs.declared.program.Typed.{Typed}
 use Rattle.par_typed.specs.Shown.{bodies}
-use Rattle.par_flow_laws.specs.Lattice.{numbers}
-use Rattle.par_flow_laws.specs.Facts.{Facts}
-use Rattle.par_table_laws.specs.Births.{AreFieldsWritten}
-use Rattle.par_table_laws.specs.Declared.{IsWellDeclared}
+use Rattle.par_program_laws.specs.Lattice.{numbers}
+use Rattle.par_program_laws.specs.Facts.{Facts}
+use Rattle.par_program_laws.specs.Births.{AreFieldsWritten}
+use Rattle.par_program_laws.specs.WellDeclared.{IsWellDeclared}
 use Rattle.par_typed_laws.specs.WellTyped.{IsWellTyped}
 use Rattle.par_check_laws.specs.Accepted.{IsAcceptedBy}
 use Rattle.par_secrecy.specs.Secure.{Secure}
-use Rattle.par_in_step_laws.specs.par_alike.Subject.{subject}
+use Rattle.par_alike.specs.Subject.{subject}
 use Rattle.par_secure_laws.specs.Explained.{Explains, IsExplained}
 
 -- A first difference of what an observer is shown of an accepted program is explained: where the

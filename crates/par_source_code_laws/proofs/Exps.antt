@@ -10,16 +10,16 @@ use Rattle.par_typed.specs.Plain.{mark, TExp, Int, Boolean, Null, This, New, Loc
 use Rattle.par_typed.specs.Plain.{Field, Input, Output, Call, Neg, Not, Binary}
 use Rattle.par_typed.specs.Plain.{Absent, Present, TExps, NoExps, More}
 use Rattle.par_typed.specs.par_lexer.declared.operator.BinOp.{BinOp}
-use Rattle.par_typed_laws.specs.par_body_laws.Types.{Is, Accepts, Operates}
-use Rattle.par_typed_laws.specs.par_body_laws.Forms.{Setting, IsReceiver, AreArguments}
-use Rattle.par_typed_laws.specs.par_body_laws.Proper.{ExpIsProper, ExpsAreProper}
+use Rattle.par_typed_laws.specs.par_program_laws.Types.{Is, Accepts, Operates}
+use Rattle.par_typed_laws.specs.par_program_laws.Forms.{Setting, IsReceiver, AreArguments}
+use Rattle.par_typed_laws.specs.par_program_laws.Proper.{ExpIsProper, ExpsAreProper}
 use Rattle.par_erase.specs.Erased.{erased_exp, erased_args}
 use Rattle.par_evaluation_laws.specs.par_code_form.Code.{is_number, shape_of}
 use Rattle.par_evaluation_laws.specs.par_code_form.Operands.{expr_top, args_top, with_result}
 use Rattle.par_evaluation_laws.specs.par_code_form.Operands.{below_second}
-use Rattle.par_evaluation_laws.specs.par_agreement_laws.Laid.{Layout, Meth, HasMethod, Typed}
-use Rattle.par_evaluation_laws.specs.par_agreement_laws.Laid.{TypedArgs}
-use Rattle.par_evaluation_laws.specs.par_agreement_laws.Laid as laid
+use Rattle.par_evaluation_laws.specs.Laid.{Layout, Meth, HasMethod, Typed}
+use Rattle.par_evaluation_laws.specs.Laid.{TypedArgs}
+use Rattle.par_evaluation_laws.specs.Laid as laid
 use Rattle.par_source_code_laws.specs.Named.{Named, EachInExp, EachInExps}
 use Rattle.par_source_code_laws.proofs.Laying.{Lays, IsMethod}
 use Rattle.par_source_code_laws.proofs.Marks.{type_of, none_sure}

@@ -8,10 +8,10 @@ use Rattle.par_typed.specs.declared.table.ClassInfo.{ClassInfo}
 use Rattle.par_typed.specs.declared.table.Table.{Table}
 use Rattle.par_typed.specs.Members.{field_at, channel_at, method_at}
 use Rattle.par_erase.specs.Erased.{inputs_in, input_place, output_place}
-use Rattle.par_evaluation_laws.specs.par_agreement_laws.Laid.{Layout, Meth, HasMethod, HasOwn}
-use Rattle.par_evaluation_laws.specs.par_agreement_laws.Laid.{HasStatic}
-use Rattle.par_evaluation_laws.specs.par_agreement_laws.Laid.{IsInput, IsOutput}
-use Rattle.par_evaluation_laws.specs.par_agreement_laws.Laid.{IsLock, IsMade, IsThrown}
+use Rattle.par_evaluation_laws.specs.Laid.{Layout, Meth, HasMethod, HasOwn}
+use Rattle.par_evaluation_laws.specs.Laid.{HasStatic}
+use Rattle.par_evaluation_laws.specs.Laid.{IsInput, IsOutput}
+use Rattle.par_evaluation_laws.specs.Laid.{IsLock, IsMade, IsThrown}
 use Rattle.par_source_code_laws.specs.Named.{Named, Made, Raised, OfClass, OfObject, Reads, Writes}
 use Rattle.par_source_code_laws.specs.Named.{Calls}
 use Rattle.par_source_code_laws.specs.Named.{Uses}

@@ -6,12 +6,13 @@ use Rattle.par_typed.specs.par_lexer.declared.operator.BinOp.{BinOp}
 use Rattle.par_typed.specs.par_lexer.declared.operator.BinOp.TheVariants as op
 use Rattle.par_typed.specs.declared.ty.Ty.{Ty}
 use Rattle.par_typed.specs.declared.ty.Ty.TheVariants as ty
-use Rattle.par_typed_laws.specs.par_body_laws.Types.{Accepts, AreBoth, Equates, Operates, IsValue}
-use Rattle.par_typed_laws.specs.par_body_laws.Types.{IsEnded}
+use Rattle.par_typed_laws.specs.par_program_laws.Types.{Accepts, AreBoth, Equates, Operates}
+use Rattle.par_typed_laws.specs.par_program_laws.Types.{IsValue}
+use Rattle.par_typed_laws.specs.par_program_laws.Types.{IsEnded}
 use Rattle.par_evaluation_laws.specs.par_code_form.Code.{Compares, Sames, shape, is_number}
 use Rattle.par_evaluation_laws.specs.par_code_form.Operands.{between_top}
-use Rattle.par_evaluation_laws.specs.par_agreement_laws.Laid.{OfShape}
-use Rattle.par_evaluation_laws.specs.par_agreement_laws.Laid as laid
+use Rattle.par_evaluation_laws.specs.Laid.{OfShape}
+use Rattle.par_evaluation_laws.specs.Laid as laid
 
 -- ---- values
 

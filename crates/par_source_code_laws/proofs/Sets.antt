@@ -9,10 +9,10 @@ use Rattle.par_policy.specs.Numbers.{has}
 use Rattle.par_typed.specs.Plain.{TSta, Block, If, While, Try, Return, Break, Continue, Throw, Open}
 use Rattle.par_typed.specs.Plain.{Close, SetLocal, SetStatic, SetField, Eval, When}
 use Rattle.par_typed.specs.declared.table.Table.{Table}
-use Rattle.par_typed_laws.specs.par_body_laws.Locals.{IsSet, behind}
+use Rattle.par_typed_laws.specs.par_program_laws.Locals.{IsSet, behind}
 use Rattle.par_erase.specs.Asked.{Locks}
 use Rattle.par_erase.specs.Erased.{erased_sta, set_if}
-use Rattle.par_evaluation_laws.specs.par_agreement_laws.Laid as laid
+use Rattle.par_evaluation_laws.specs.Laid as laid
 use Rattle.par_evaluation_laws.specs.Programs.{first_set}
 
 -- the second list has all that the first has

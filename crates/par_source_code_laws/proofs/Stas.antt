@@ -9,21 +9,21 @@ use Rattle.par_typed.specs.Plain.{TSta, Block, If, While, Try, Return, Break, Co
 use Rattle.par_typed.specs.Plain.{Close, SetLocal, SetStatic, SetField, Eval, When, MayTSta, NoElse}
 use Rattle.par_typed.specs.Plain.{Otherwise, TStas, End, Then, TCatches, NoCatch, Catch}
 use Rattle.par_typed_laws.specs.par_completes.Typed.{completes, is_true}
-use Rattle.par_typed_laws.specs.par_body_laws.Locals.{behind}
-use Rattle.par_typed_laws.specs.par_body_laws.Forms.{Setting}
-use Rattle.par_typed_laws.specs.par_body_laws.Proper.{StaIsProper, ElseIsProper, AllAreProper}
-use Rattle.par_typed_laws.specs.par_body_laws.Proper.{CatchesAreProper}
-use Rattle.par_typed_laws.specs.par_body_laws.Proper.{ExpIsProper}
+use Rattle.par_typed_laws.specs.par_program_laws.Locals.{behind}
+use Rattle.par_typed_laws.specs.par_program_laws.Forms.{Setting}
+use Rattle.par_typed_laws.specs.par_program_laws.Proper.{StaIsProper, ElseIsProper, AllAreProper}
+use Rattle.par_typed_laws.specs.par_program_laws.Proper.{CatchesAreProper}
+use Rattle.par_typed_laws.specs.par_program_laws.Proper.{ExpIsProper}
 use Rattle.par_erase.specs.Asked.{Locks}
 use Rattle.par_erase.specs.Erased.{erased_exp, erased_sta, erased_else, erased_all, erased_catches}
 use Rattle.par_erase.specs.Erased.{erased_may, set_if}
 use Rattle.par_evaluation_laws.specs.par_code_form.Operands.{expr_top, may_top, top, else_top}
 use Rattle.par_evaluation_laws.specs.par_code_form.Operands.{all_top}
 use Rattle.par_evaluation_laws.specs.par_code_form.Operands.{catch_top}
-use Rattle.par_evaluation_laws.specs.par_agreement_laws.Laid.{Layout, Typed, TypedS, TypedElse}
-use Rattle.par_evaluation_laws.specs.par_agreement_laws.Laid.{TypedAll}
-use Rattle.par_evaluation_laws.specs.par_agreement_laws.Laid.{TypedCatches}
-use Rattle.par_evaluation_laws.specs.par_agreement_laws.Laid as laid
+use Rattle.par_evaluation_laws.specs.Laid.{Layout, Typed, TypedS, TypedElse}
+use Rattle.par_evaluation_laws.specs.Laid.{TypedAll}
+use Rattle.par_evaluation_laws.specs.Laid.{TypedCatches}
+use Rattle.par_evaluation_laws.specs.Laid as laid
 use Rattle.par_source_code_laws.specs.Named.{Named, EachInSta, EachInElse, EachInStas}
 use Rattle.par_source_code_laws.specs.Named.{EachInCatches}
 use Rattle.par_source_code_laws.specs.Named.{EachInMay}

@@ -6,7 +6,7 @@ use Rattle.par_typed.specs.declared.ty.Ty.TheVariants as ty
 use Rattle.par_evaluation_laws.specs.par_code_form.Code.{Shape, Calculates, Compares, Sames}
 use Rattle.par_evaluation_laws.specs.par_code_form.Code.{Decides}
 use Rattle.par_evaluation_laws.specs.par_code_form.Operands.{below_second, between_top, with_result}
-use Rattle.par_evaluation_laws.specs.par_agreement_laws.Laid as laid
+use Rattle.par_evaluation_laws.specs.Laid as laid
 
 pub left_le : (a b r : ℕ) → max a b ≤ r → a ≤ r
 left_le a b r h = omega arith

@@ -14,16 +14,16 @@ use Rattle.par_typed.specs.declared.table.Table.{Table}
 use Rattle.par_typed.specs.Plain.{TSta, Body}
 use Rattle.par_typed_laws.specs.par_completes.Typed.{completes}
 use Rattle.par_typed.specs.Members.{method_at}
-use Rattle.par_typed_laws.specs.par_body_laws.Locals.{BeginsWith, arriving, arrivals}
-use Rattle.par_typed_laws.specs.par_body_laws.Forms.{Setting}
-use Rattle.par_typed_laws.specs.par_body_laws.Proper.{IsProper, IsProperOf}
+use Rattle.par_typed_laws.specs.par_program_laws.Locals.{BeginsWith, arriving, arrivals}
+use Rattle.par_typed_laws.specs.par_program_laws.Forms.{Setting}
+use Rattle.par_typed_laws.specs.par_program_laws.Proper.{IsProper, IsProperOf}
 use Rattle.par_evaluation_laws.specs.par_run_laws.Names.{body_of}
 use Rattle.par_erase.specs.Asked.{asked_in}
 use Rattle.par_erase.specs.Erased.{erased_table, erased_method, erased_sta}
 use Rattle.par_erase.specs.Erased.{erased_bodies}
 use Rattle.par_evaluation_laws.specs.par_code_form.Code.{Words}
 use Rattle.par_evaluation_laws.specs.par_match_laws.Labelled.{Labelled}
-use Rattle.par_evaluation_laws.specs.par_agreement_laws.Laid.{Layout, Meth, given_types}
+use Rattle.par_evaluation_laws.specs.Laid.{Layout, Meth, given_types}
 use Rattle.par_evaluation_laws.specs.Programs.{Coded, first_set}
 use Rattle.par_source_code_laws.specs.Named.{EachInSta}
 use Rattle.par_source_code_laws.specs.Methods.{meth, may_meth, local_type, IsLaid, IsCodeOf}

@@ -3,15 +3,15 @@ use Rattle.std.specs.Prelude.{◌≡◌, ℕ, ◌⊎◌, List, [], Some}
 use Rattle.std.specs.List.{AllByRecursion}
 use Rattle.par_typed.specs.declared.table.Table.{Table}
 use Rattle.par_typed.specs.Plain.{Body}
-use Rattle.par_typed_laws.specs.par_body_laws.Proper.{IsProper}
+use Rattle.par_typed_laws.specs.par_program_laws.Proper.{IsProper}
 use Rattle.par_typed_laws.specs.Bodied.{AreBodiesOf}
 use Rattle.par_typed_laws.specs.Beginning.{HasMain}
 use Rattle.par_evaluation_laws.specs.par_run_laws.Names.{main_of}
 use Rattle.par_erase.specs.Erased.{erased_table, erased_bodies}
 use Rattle.par_evaluation_laws.specs.par_code_form.Code.{Words}
 use Rattle.par_evaluation_laws.specs.par_match_laws.Labelled.{Labelled, Naming}
-use Rattle.par_evaluation_laws.specs.par_agreement_laws.Laid.{Layout, Meth, HasMethod}
-use Rattle.par_evaluation_laws.specs.par_agreement_laws.Agreement.{Lays}
+use Rattle.par_evaluation_laws.specs.Laid.{Layout, Meth, HasMethod}
+use Rattle.par_evaluation_laws.specs.Agreement.{Lays}
 use Rattle.par_evaluation_laws.specs.Programs.{Inits, IsCompiled}
 use Rattle.par_source_code_laws.specs.Named.{EachInSta}
 use Rattle.par_source_code_laws.specs.Methods.{meth_at, IsLaid, IsCodeOf}

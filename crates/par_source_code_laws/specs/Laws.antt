@@ -6,7 +6,7 @@ use Rattle.par_typed.specs.declared.table.MethodInfo.{MethodInfo}
 use Rattle.par_typed.specs.declared.table.Table.{Table}
 use Rattle.par_typed.specs.Plain.{TSta, Body}
 use Rattle.par_typed.specs.Members.{method_at}
-use Rattle.par_typed_laws.specs.par_body_laws.Proper.{IsProper}
+use Rattle.par_typed_laws.specs.par_program_laws.Proper.{IsProper}
 use Rattle.par_typed_laws.specs.par_completes.Typed.{completes}
 use Rattle.par_erase.specs.Asked.{Locks, asked_in}
 use Rattle.par_erase.specs.Erased.{erased_table, erased_method, erased_sta, erased_bodies}
@@ -16,7 +16,7 @@ use Rattle.par_evaluation_laws.specs.par_run_laws.Names.{main_of}
 use Rattle.par_values.specs.Areas.{Name}
 use Rattle.par_evaluation_laws.specs.par_code_form.Code.{Words, body_code, body_handlers}
 use Rattle.par_evaluation_laws.specs.par_match_laws.Labelled.{Labelled}
-use Rattle.par_evaluation_laws.specs.par_agreement_laws.Laid.{Layout, Meth, given_types}
+use Rattle.par_evaluation_laws.specs.Laid.{Layout, Meth, given_types}
 use Rattle.par_evaluation_laws.specs.Programs.{Coded}
 use Rattle.par_source_code_laws.specs.Named.{EachInSta}
 use Rattle.par_source_code_laws.specs.Items.{ItemPasses, HandlerPasses, NamedPasses, LockPasses}

@@ -15,7 +15,7 @@ use Rattle.par_evaluation_laws.specs.par_run_laws.Names.{body_of}
 use Rattle.par_evaluation_laws.specs.par_code_form.Code.{Words, body_code, body_handlers}
 use Rattle.par_evaluation_laws.specs.par_code_form.Operands.{top}
 use Rattle.par_evaluation_laws.specs.par_match_laws.Labelled.{Labelled}
-use Rattle.par_evaluation_laws.specs.par_agreement_laws.Laid.{Layout, Meth, IsLock}
+use Rattle.par_evaluation_laws.specs.Laid.{Layout, Meth, IsLock}
 use Rattle.par_evaluation_laws.specs.Programs.{given_kind}
 use Rattle.par_source_code_laws.specs.Named.{Named, Made, Raised, OfClass, OfObject, Reads, Writes}
 use Rattle.par_source_code_laws.specs.Named.{Calls}

@@ -9,7 +9,7 @@ use Rattle.par_tree.specs.Grammar.{Symbols, Builders}
 use Rattle.par_tree.specs.Values.{Values, paragon, built}
 use Rattle.par_tree.proofs.Founded.{founded}
 use Rattle.par_tree.proofs.Rules.{run_built}
-use Rattle.par_policy_reader.specs.par_language_laws.Reads.{Reads}
+use Rattle.par_policy_reader.specs.par_reader.SourceLanguage.{Reads}
 
 pub behind : {A : Type 0} (b : Builders) (ys : Symbols) {old : Values}
     (mid : Values) {show : A → Values} {i j : Input} {r : Result A ParseError}

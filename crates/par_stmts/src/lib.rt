@@ -14,4 +14,4 @@ pub mod simple;
 pub mod stmt;
 
 pub use par_policy_reader;
-pub use par_policy_reader::{par_language_laws, par_reader};
+pub use par_policy_reader::par_reader;

@@ -6,7 +6,7 @@ ghost use Rattle.par_lexer.specs.declared.sign.TheConstants as signs;
 ghost use Rattle.par_lexer.specs.declared.word.TheConstants as words;
 ghost use Rattle.par_policy_reader.specs.par_reader.Reads.{input};
 ghost use Rattle.par_tree.specs.Grammar as g;
-ghost use Rattle.par_policy_reader.specs.par_language_laws.Reads.{Reads};
+ghost use Rattle.par_policy_reader.specs.par_reader.SourceLanguage.{Reads};
 ghost use Rattle.par_stmts.specs.Reads.{a_block, may_be_block, a_stmt, the_stmts, an_else};
 ghost use Rattle.par_stmts.specs.Reads.{a_catch, the_catches};
 
@@ -16,9 +16,9 @@ use crate::simple::simple;
 use par_grammar::sort::Sort;
 use par_lexer::list::List;
 use par_lexer::{sign, word};
-use par_policy_reader::par_language_laws::Paragon;
 use par_policy_reader::par_reader::cursor::Cursor;
 use par_policy_reader::par_reader::error::ParseError;
+use par_policy_reader::par_reader::source_language::Paragon;
 use par_tree::stmt::{Block, CatchTree, Stmt};
 use std::alloc::Global;
 

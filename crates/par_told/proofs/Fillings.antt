@@ -9,15 +9,15 @@ use Rattle.par_typed.specs.declared.table.ClassInfo.{ClassInfo}
 use Rattle.par_typed.specs.declared.table.FieldInfo.{FieldInfo}
 use Rattle.par_typed.specs.declared.table.Table.{Table}
 use Rattle.par_typed.specs.Plain.{Body}
-use Rattle.par_flow_laws.specs.Lattice.{Seen, IsSeenBelow}
-use Rattle.par_flow_laws.specs.Facts.{Facts}
-use Rattle.par_flow_laws.specs.Declares.{declares}
-use Rattle.par_flow_laws.specs.Closed.{IsClosed}
+use Rattle.par_program_laws.specs.Lattice.{Seen, IsSeenBelow}
+use Rattle.par_program_laws.specs.Facts.{Facts}
+use Rattle.par_program_laws.specs.Declares.{declares}
+use Rattle.par_program_laws.specs.Closed.{IsClosed}
 use Rattle.par_check_laws.specs.Asked.{Check}
 use Rattle.par_check_laws.specs.Checks.{checks}
 use Rattle.par_check_laws.specs.Keeps.{Keeps}
 use Rattle.par_pass_laws.specs.Seens.{seen_as, given_of}
-use Rattle.par_table_laws.specs.Inferred.{inferred}
+use Rattle.par_program_laws.specs.Inferred.{inferred}
 use Rattle.par_infer.specs.Seens.{filled, IsPolicy}
 use Rattle.par_infer.specs.Keeps.{strict}
 use Rattle.par_infer.specs.Filling.{Filling, with_filling, IsAccepted, IsBodyAccepted}

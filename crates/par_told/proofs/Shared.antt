@@ -17,8 +17,8 @@ use Rattle.par_policy.proofs.Antisymmetry.{same_normal_forms}
 use Rattle.par_typed.specs.declared.table.FieldInfo.{FieldInfo}
 use Rattle.par_typed.specs.declared.table.ClassInfo.{ClassInfo}
 use Rattle.par_typed.specs.declared.table.Table.{Table}
-use Rattle.par_table_laws.specs.Inferred.{inferred, inferred_among, inferred_in}
-use Rattle.par_table_laws.specs.Policies.{inferred_numbers, ArePoliciesShared}
+use Rattle.par_program_laws.specs.Inferred.{inferred, inferred_among, inferred_in}
+use Rattle.par_program_laws.specs.Policies.{inferred_numbers, ArePoliciesShared}
 
 -- ---- the numbers of inferred fields, as a list
 

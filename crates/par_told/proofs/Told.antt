@@ -10,10 +10,10 @@ use Rattle.par_policy.proofs.Below.{below_iff}
 use Rattle.par_policy.proofs.Seen.{same_tests}
 use Rattle.par_bits.specs.Sets.{Set}
 use Rattle.par_typed.specs.declared.table.Table.{Table}
-use Rattle.par_flow_laws.specs.Lattice.{IsSeenBelow, joined, seen_by}
+use Rattle.par_program_laws.specs.Lattice.{IsSeenBelow, joined, seen_by}
 use Rattle.par_pass_laws.specs.Seens.{given_of, join_of, plain}
-use Rattle.par_table_laws.specs.Declared.{IsWellDeclared}
-use Rattle.par_table_laws.specs.Inferred.{inferred}
+use Rattle.par_program_laws.specs.WellDeclared.{IsWellDeclared}
+use Rattle.par_program_laws.specs.Inferred.{inferred}
 use Rattle.par_infer.specs.Printed.{Orders}
 use Rattle.par_infer.proofs.Printed.{highest_stand}
 use Rattle.par_infer.proofs.Seens.{join_below, join_member, join_order, plain_join}

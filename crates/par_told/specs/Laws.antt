@@ -3,7 +3,7 @@ use Rattle.std.specs.Prelude.{◌≤◌, ℕ, List, length}
 use Rattle.par_bits.specs.Sets.{Set}
 use Rattle.par_typed.specs.declared.table.Table.{Table}
 use Rattle.par_typed.specs.Plain.{Body}
-use Rattle.par_table_laws.specs.Declared.{IsWellDeclared}
+use Rattle.par_program_laws.specs.WellDeclared.{IsWellDeclared}
 use Rattle.par_infer.specs.Inferred.{AreLeastAccepted}
 use Rattle.par_told.specs.Told.{told}
 

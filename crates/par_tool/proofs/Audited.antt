@@ -24,9 +24,9 @@ use Rattle.par_resolved.specs.Policies.{nothing_known}
 use Rattle.par_audit.proofs.par_typed_laws.Entries.{numbers_stay}
 use Rattle.par_names.specs.Declarations.{actors, policies}
 use Rattle.par_observer.specs.par_typing.Typed.{written}
-use Rattle.par_observer.proofs.par_check_span_laws.Law.{checks_lie}
-use Rattle.par_flow_laws.specs.Lattice.{numbers}
-use Rattle.par_flow_laws.specs.Facts.{Facts}
+use Rattle.par_observer.proofs.SpanLaw.{checks_lie}
+use Rattle.par_program_laws.specs.Lattice.{numbers}
+use Rattle.par_program_laws.specs.Facts.{Facts}
 use Rattle.par_check_laws.specs.Asked.{Check}
 use Rattle.par_check_laws.specs.Checks.{checks}
 use Rattle.par_check_laws.specs.Accepted.{IsAcceptedBy}

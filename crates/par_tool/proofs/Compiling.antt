@@ -37,12 +37,12 @@ use Rattle.par_class_writer.specs.par_compile_laws.Files.{IsVersioned}
 use Rattle.par_compile.specs.declared.compiled.CompiledClass.{CompiledClass}
 use Rattle.par_compile.specs.Compiled.{IsCompiledClass, AreCompiled}
 use Rattle.par_class_writer.specs.Written.{SetsBut, AreWritten, FailsAt, IsCutOff}
-use Rattle.par_linkable_laws.specs.par_link_laws.Parts.{AreFilesOf, ArePart, AreFound, IsFoundIn}
-use Rattle.par_linkable_laws.specs.par_link_laws.Linkable.{IsLinkable}
-use Rattle.par_linkable_laws.proofs.par_link_laws.Program.{class-of, number-at}
-use Rattle.par_linkable_laws.proofs.par_link_laws.Texts.{class-is}
-use Rattle.par_linkable_laws.proofs.par_link_laws.Whole.{files_link, files_load}
-use Rattle.par_linkable_laws.proofs.Whole.{well_typed_programs_are_linkable}
+use Rattle.par_link_laws.specs.Parts.{AreFilesOf, ArePart, AreFound, IsFoundIn}
+use Rattle.par_link_laws.specs.Linkable.{IsLinkable}
+use Rattle.par_link_laws.proofs.Program.{class-of, number-at}
+use Rattle.par_link_laws.proofs.Texts.{class-is}
+use Rattle.par_link_laws.proofs.Whole.{files_link, files_load}
+use Rattle.par_link_laws.proofs.WellTyped.{well_typed_programs_are_linkable}
 use Rattle.par_verified_file_laws.specs.Laws.{main_class, AreLoadedFor, IsVersionedFile}
 use Rattle.par_verified_file_laws.proofs.Whole.{files_show, files_show_whole}
 use Rattle.par_verified_file_laws.proofs.Whole.{loaded_files_are_framed, loaded_files_are_verified}

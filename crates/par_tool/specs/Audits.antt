@@ -8,8 +8,8 @@ use Rattle.par_lexer.specs.Places.{line_at, column_at}
 use Rattle.par_typed.specs.declared.table.Table.{Table}
 use Rattle.par_typed.specs.declared.program.Typed.{Typed}
 use Rattle.par_typed.specs.Shown.{bodies}
-use Rattle.par_flow_laws.specs.Lattice.{numbers}
-use Rattle.par_flow_laws.specs.Facts.{Facts}
+use Rattle.par_program_laws.specs.Lattice.{numbers}
+use Rattle.par_program_laws.specs.Facts.{Facts}
 use Rattle.par_check_laws.specs.Accepted.{IsAcceptedBy}
 use Rattle.par_secrecy.specs.Subject.{Subject}
 use Rattle.par_secrecy.specs.Target.{Target}

@@ -5,9 +5,9 @@ use Rattle.par_lexer.specs.declared.cut.TheConstants.{LONGEST_SOURCE}
 use Rattle.par_typed.specs.declared.program.Typed.{Typed}
 use Rattle.par_refusals.specs.declared.refusal.Refusal.{Refusal}
 use Rattle.par_typed.specs.Shown.{bodies}
-use Rattle.par_flow_laws.specs.Lattice.{numbers}
-use Rattle.par_flow_laws.specs.Facts.{Facts}
-use Rattle.par_table_laws.specs.Inferred.{inferred}
+use Rattle.par_program_laws.specs.Lattice.{numbers}
+use Rattle.par_program_laws.specs.Facts.{Facts}
+use Rattle.par_program_laws.specs.Inferred.{inferred}
 use Rattle.par_reached.specs.Reached.{AreLeastSets, set_at}
 use Rattle.par_check_laws.specs.Right.{AreAllRight}
 use Rattle.par_infer.specs.Bounds.{bounds}

@@ -6,7 +6,7 @@ use Rattle.par_values.specs.declared.inputs.Inputs.{Inputs}
 use Rattle.par_class.specs.declared.file.ClassFile.{ClassFile}
 use Rattle.par_single.specs.Members.{own_name}
 use Rattle.par_step_laws.specs.Run.{machine_run}
-use Rattle.par_verify.specs.par_sound_laws.Laws.{IsFine}
+use Rattle.par_verify.specs.par_verify_laws.SoundLaws.{IsFine}
 use Rattle.par_verify.specs.par_verify_laws.Verified.{AllFrames, AreFramesOf, AreVerified}
 use Rattle.par_verify.specs.par_verify_laws.Verified.{IsUnverified}
 use Rattle.par_verify.specs.declared.error.VerifyError.{VerifyError}

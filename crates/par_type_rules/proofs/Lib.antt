@@ -4,3 +4,6 @@ pub mod Literals
 pub mod MethodForms
 pub mod StmtForms
 pub mod Places
+pub mod PointLaws
+pub mod Points
+pub mod StmtPoints

@@ -6,6 +6,10 @@ pub mod Methods
 pub mod Program
 pub mod Inferred
 pub mod Places
+pub mod Frames
+pub mod TypedExprs
+pub mod TypedStmts
+pub mod TypedBodies
+pub mod Points
+pub mod PointLaws
 pub use Rattle.par_scope.specs as par_scope
-pub use Rattle.par_tree.specs as par_tree
-pub use Rattle.par_completes.specs.par_typed as par_typed

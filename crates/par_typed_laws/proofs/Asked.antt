@@ -8,12 +8,12 @@ use Rattle.std.specs.List.{AllByRecursion, list_any, range_with_len}
 use Rattle.std.proofs.lemmas.List.{length-map, map-append}
 use Rattle.std.proofs.lemmas.List.FromFn.{length-range_with_len}
 use Rattle.std.proofs.lemmas.Bool.Decides.{nat_tests}
-use Rattle.par_body_laws.specs.par_tree.declared.policy.LockTree.{LockTree}
-use Rattle.par_body_laws.specs.par_tree.declared.policy.PolicyExpr.{PolicyExpr}
-use Rattle.par_body_laws.specs.par_tree.declared.decl.LockDecl.{LockDecl}
-use Rattle.par_body_laws.specs.par_tree.Plain.{Source}
-use Rattle.par_flow_laws.specs.par_typed.declared.table.GroundLock.{GroundLock}
-use Rattle.par_flow_laws.specs.par_typed.declared.table.Table.{Table}
+use Rattle.par_program_laws.specs.par_tree.declared.policy.LockTree.{LockTree}
+use Rattle.par_program_laws.specs.par_tree.declared.policy.PolicyExpr.{PolicyExpr}
+use Rattle.par_program_laws.specs.par_tree.declared.decl.LockDecl.{LockDecl}
+use Rattle.par_program_laws.specs.par_tree.Plain.{Source}
+use Rattle.par_program_laws.specs.par_typed.declared.table.GroundLock.{GroundLock}
+use Rattle.par_program_laws.specs.par_typed.declared.table.Table.{Table}
 use Rattle.par_source_laws.specs.par_names.Declarations.{locks}
 use Rattle.par_faults.specs.par_resolved.Numbers.{lock_number, ground_count, choices}
 use Rattle.par_faults.specs.par_resolved.Numbers.{place_in_family}

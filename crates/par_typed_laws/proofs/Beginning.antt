@@ -8,10 +8,10 @@ use Rattle.std.specs.Option.{is_none}
 use Rattle.std.specs.Str.{bytes_eq}
 use Rattle.std.proofs.lemmas.List.Elements.{filter-append}
 use Rattle.std.proofs.lemmas.Bool.Decides.{nat_tests}
-use Rattle.par_body_laws.specs.par_tree.declared.types.TypeTree.{TypeTree}
-use Rattle.par_body_laws.specs.par_tree.Plain.{Class, Method, Source}
-use Rattle.par_flow_laws.specs.par_typed.declared.ty.Ty.TheVariants as ty
-use Rattle.par_flow_laws.specs.par_typed.declared.table.MethodInfo.{MethodInfo}
+use Rattle.par_program_laws.specs.par_tree.declared.types.TypeTree.{TypeTree}
+use Rattle.par_program_laws.specs.par_tree.Plain.{Class, Method, Source}
+use Rattle.par_program_laws.specs.par_typed.declared.ty.Ty.TheVariants as ty
+use Rattle.par_program_laws.specs.par_typed.declared.table.MethodInfo.{MethodInfo}
 use Rattle.par_refusals.specs.First.{when, broken}
 use Rattle.par_source_laws.specs.par_names.Declarations.{classes}
 use Rattle.par_source_laws.specs.par_names.Program.{program_doubles, declarations_faults, mains}
@@ -22,7 +22,7 @@ use Rattle.par_faults.specs.par_resolved.Resolved.{Resolved, resolved, param_inf
 use Rattle.par_faults.specs.par_resolved.Resolved.{method_info}
 use Rattle.par_faults.specs.par_resolved.Resolved.{class_infos, has_main, table_of}
 use Rattle.par_source_laws.specs.Order.{IsInOrder}
-use Rattle.par_flow_laws.specs.par_typed.Members.{methods_in}
+use Rattle.par_program_laws.specs.par_typed.Members.{methods_in}
 use Rattle.par_typed_laws.specs.Beginning as table
 use Rattle.par_typed_laws.specs.Beginning.{HasMain}
 use Rattle.par_typed_laws.proofs.Lists.{none_left, none_right}

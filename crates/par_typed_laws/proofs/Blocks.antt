@@ -1,32 +1,33 @@
 -- The body of each catch in a typed body is a block.
 use Rattle.std.proofs.Common.{◌≡◌, ℕ, ◌+◌, true, List, [], ◌∷◌, Option, Some, None, refl}
 use Rattle.std.specs.List.{AllByRecursion}
-use Rattle.par_body_laws.specs.par_tree.Plain.{Sta, Block, If, While, Try, Return, Break, Continue}
-use Rattle.par_body_laws.specs.par_tree.Plain.{Throw, Open}
-use Rattle.par_body_laws.specs.par_tree.Plain.{Close}
-use Rattle.par_body_laws.specs.par_tree.Plain.{Declare, Assign, Do, When, Braces, In, MayBraces}
-use Rattle.par_body_laws.specs.par_tree.Plain.{NoBraces}
-use Rattle.par_body_laws.specs.par_tree.Plain.{Else, NoElse, Otherwise, Stas, End, Then, Catches}
-use Rattle.par_body_laws.specs.par_tree.Plain.{NoCatch, Catch}
-use Rattle.par_body_laws.specs.par_tree.Plain.{Handler, On, Method, Class, Declaration, Source}
-use Rattle.par_body_laws.specs.par_tree.Plain as plain
-use Rattle.par_flow_laws.specs.par_typed.declared.table.Table.{Table}
-use Rattle.par_flow_laws.specs.par_typed.Nodes.{nodes, stmt_nodes}
-use Rattle.par_flow_laws.specs.par_typed.Plain.{TExp, Body}
-use Rattle.par_annotation_laws.specs.par_scope.Names.{Names, names_of}
-use Rattle.par_annotation_laws.specs.par_scope.Home.{Home, class_named}
-use Rattle.par_annotation_laws.specs.Frames.{Frame, further}
-use Rattle.par_annotation_laws.specs.Exprs.{typed_exp}
-use Rattle.par_annotation_laws.specs.Stmts.{Written, Target, Nowhere, ToLocal, ToStatic, ToField}
-use Rattle.par_annotation_laws.specs.Stmts.{target}
-use Rattle.par_annotation_laws.specs.Stmts.{target_nodes, assignment, behind}
-use Rattle.par_annotation_laws.specs.par_scope.Own.{braces_locals, handler_locals}
-use Rattle.par_annotation_laws.specs.Stmts.{typed_sta, typed_braces, typed_may_braces, typed_else}
-use Rattle.par_annotation_laws.specs.Stmts.{typed_stas, typed_catches, typed_handler}
-use Rattle.par_annotation_laws.specs.Bodies.{no_frame, with_params, typed_methods}
-use Rattle.par_annotation_laws.specs.Bodies.{typed_class, typed_declaration, typed_declarations}
-use Rattle.par_annotation_laws.specs.par_type_rules.Methods.{home_of}
-use Rattle.par_annotation_laws.specs.par_scope.Home.{result_written}
+use Rattle.par_program_laws.specs.par_tree.Plain.{Sta, Block, If, While, Try, Return, Break}
+use Rattle.par_program_laws.specs.par_tree.Plain.{Continue}
+use Rattle.par_program_laws.specs.par_tree.Plain.{Throw, Open}
+use Rattle.par_program_laws.specs.par_tree.Plain.{Close}
+use Rattle.par_program_laws.specs.par_tree.Plain.{Declare, Assign, Do, When, Braces, In, MayBraces}
+use Rattle.par_program_laws.specs.par_tree.Plain.{NoBraces}
+use Rattle.par_program_laws.specs.par_tree.Plain.{Else, NoElse, Otherwise, Stas, End, Then, Catches}
+use Rattle.par_program_laws.specs.par_tree.Plain.{NoCatch, Catch}
+use Rattle.par_program_laws.specs.par_tree.Plain.{Handler, On, Method, Class, Declaration, Source}
+use Rattle.par_program_laws.specs.par_tree.Plain as plain
+use Rattle.par_program_laws.specs.par_typed.declared.table.Table.{Table}
+use Rattle.par_program_laws.specs.par_typed.Nodes.{nodes, stmt_nodes}
+use Rattle.par_program_laws.specs.par_typed.Plain.{TExp, Body}
+use Rattle.par_type_rules.specs.par_scope.Names.{Names, names_of}
+use Rattle.par_type_rules.specs.par_scope.Home.{Home, class_named}
+use Rattle.par_type_rules.specs.Frames.{Frame, further}
+use Rattle.par_type_rules.specs.TypedExprs.{typed_exp}
+use Rattle.par_type_rules.specs.TypedStmts.{Written, Target, Nowhere, ToLocal, ToStatic, ToField}
+use Rattle.par_type_rules.specs.TypedStmts.{target}
+use Rattle.par_type_rules.specs.TypedStmts.{target_nodes, assignment, behind}
+use Rattle.par_type_rules.specs.par_scope.Own.{braces_locals, handler_locals}
+use Rattle.par_type_rules.specs.TypedStmts.{typed_sta, typed_braces, typed_may_braces, typed_else}
+use Rattle.par_type_rules.specs.TypedStmts.{typed_stas, typed_catches, typed_handler}
+use Rattle.par_type_rules.specs.TypedBodies.{no_frame, with_params, typed_methods}
+use Rattle.par_type_rules.specs.TypedBodies.{typed_class, typed_declaration, typed_declarations}
+use Rattle.par_type_rules.specs.Methods.{home_of}
+use Rattle.par_type_rules.specs.par_scope.Home.{result_written}
 use Rattle.par_faults.specs.par_resolved.Resolved.{table_of}
 use Rattle.par_typed_laws.specs.Blocks.{is_block, HasBlocks, ElseHasBlocks, AllHaveBlocks}
 use Rattle.par_typed_laws.specs.Blocks.{CatchesHaveBlocks}

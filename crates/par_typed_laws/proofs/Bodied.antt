@@ -4,16 +4,16 @@ use Rattle.std.proofs.Common.{◌∙◌, append_assoc, map}
 use Rattle.std.specs.Prelude.{flat_map, slice_get, count_by}
 use Rattle.std.specs.List.{AllByRecursion, range_with_len}
 use Rattle.std.proofs.lemmas.List.{length-map, length-append, map-append}
-use Rattle.par_body_laws.specs.par_tree.Plain.{Class, Method, Declaration, Source}
-use Rattle.par_body_laws.specs.par_tree.Plain as plain
-use Rattle.par_flow_laws.specs.par_typed.declared.table.Table.{Table}
+use Rattle.par_program_laws.specs.par_tree.Plain.{Class, Method, Declaration, Source}
+use Rattle.par_program_laws.specs.par_tree.Plain as plain
+use Rattle.par_program_laws.specs.par_typed.declared.table.Table.{Table}
 use Rattle.par_source_laws.specs.par_names.Declarations.{classes, builtins, classes_in}
 use Rattle.par_source_laws.specs.par_names.Program.{name_faults}
-use Rattle.par_annotation_laws.specs.par_scope.Names.{names_of}
-use Rattle.par_annotation_laws.specs.par_scope.Home.{class_named}
-use Rattle.par_annotation_laws.specs.Stmts.{Written}
-use Rattle.par_annotation_laws.specs.Bodies.{typed_methods, typed_class, typed_declaration}
-use Rattle.par_annotation_laws.specs.Bodies.{typed_declarations}
+use Rattle.par_type_rules.specs.par_scope.Names.{names_of}
+use Rattle.par_type_rules.specs.par_scope.Home.{class_named}
+use Rattle.par_type_rules.specs.TypedStmts.{Written}
+use Rattle.par_type_rules.specs.TypedBodies.{typed_methods, typed_class, typed_declaration}
+use Rattle.par_type_rules.specs.TypedBodies.{typed_declarations}
 use Rattle.par_faults.specs.par_resolved.Resolved.{Resolved, resolved, class_info, class_infos}
 use Rattle.par_faults.specs.par_resolved.Resolved.{method_info}
 use Rattle.par_faults.specs.par_resolved.Resolved.{table_of}

@@ -2,27 +2,30 @@
 use Rattle.std.proofs.Common.{◌≡◌, ℕ, ◌+◌, ◌<◌, ◌≤◌, Bool, true, false, List, [], ◌∷◌, Option, Some}
 use Rattle.std.proofs.Common.{None, refl, sym, subst, arith, add-zero}
 use Rattle.std.specs.List.{AllByRecursion}
-use Rattle.par_body_laws.specs.par_tree.declared.policy.LockTree.{LockTree}
-use Rattle.par_body_laws.specs.par_tree.declared.policy.PolicyExpr.{PolicyExpr}
-use Rattle.par_body_laws.specs.par_tree.Plain.{Exp, Int, True, False, Null, This, New, Name, Field}
-use Rattle.par_body_laws.specs.par_tree.Plain.{Call, Neg}
-use Rattle.par_body_laws.specs.par_tree.Plain.{Not, Binary}
-use Rattle.par_body_laws.specs.par_tree.Plain.{Exps, NoExps, More, MayExp, Absent, Present, Source}
-use Rattle.par_body_laws.specs.par_tree.Plain.{Sta, Block, If, While, Try, Return, Break, Continue}
-use Rattle.par_body_laws.specs.par_tree.Plain.{Throw, Open}
-use Rattle.par_body_laws.specs.par_tree.Plain.{Close}
-use Rattle.par_body_laws.specs.par_tree.Plain.{Declare, Assign, Do, When, Braces, In, MayBraces}
-use Rattle.par_body_laws.specs.par_tree.Plain.{NoBraces}
-use Rattle.par_body_laws.specs.par_tree.Plain.{Else, NoElse, Otherwise, Stas, End, Then, Catches}
-use Rattle.par_body_laws.specs.par_tree.Plain.{NoCatch, Catch}
-use Rattle.par_body_laws.specs.par_tree.Plain.{Handler, On}
-use Rattle.par_body_laws.specs.par_tree.Plain as plain
-use Rattle.par_flow_laws.specs.par_typed.declared.ty.Ty.TheVariants as ty
-use Rattle.par_flow_laws.specs.par_typed.declared.table.ChannelInfo.{ChannelInfo}
-use Rattle.par_flow_laws.specs.par_typed.declared.table.Table.{Table}
-use Rattle.par_flow_laws.specs.par_typed.Plain as typed
-use Rattle.par_flow_laws.specs.par_typed.Plain.{Mark, TExp, MayTExp, TExps}
-use Rattle.par_flow_laws.specs.par_typed.Nodes.{may_nodes}
+use Rattle.par_program_laws.specs.par_tree.declared.policy.LockTree.{LockTree}
+use Rattle.par_program_laws.specs.par_tree.declared.policy.PolicyExpr.{PolicyExpr}
+use Rattle.par_program_laws.specs.par_tree.Plain.{Exp, Int, True, False, Null, This, New, Name}
+use Rattle.par_program_laws.specs.par_tree.Plain.{Field}
+use Rattle.par_program_laws.specs.par_tree.Plain.{Call, Neg}
+use Rattle.par_program_laws.specs.par_tree.Plain.{Not, Binary}
+use Rattle.par_program_laws.specs.par_tree.Plain.{Exps, NoExps, More, MayExp, Absent, Present}
+use Rattle.par_program_laws.specs.par_tree.Plain.{Source}
+use Rattle.par_program_laws.specs.par_tree.Plain.{Sta, Block, If, While, Try, Return, Break}
+use Rattle.par_program_laws.specs.par_tree.Plain.{Continue}
+use Rattle.par_program_laws.specs.par_tree.Plain.{Throw, Open}
+use Rattle.par_program_laws.specs.par_tree.Plain.{Close}
+use Rattle.par_program_laws.specs.par_tree.Plain.{Declare, Assign, Do, When, Braces, In, MayBraces}
+use Rattle.par_program_laws.specs.par_tree.Plain.{NoBraces}
+use Rattle.par_program_laws.specs.par_tree.Plain.{Else, NoElse, Otherwise, Stas, End, Then, Catches}
+use Rattle.par_program_laws.specs.par_tree.Plain.{NoCatch, Catch}
+use Rattle.par_program_laws.specs.par_tree.Plain.{Handler, On}
+use Rattle.par_program_laws.specs.par_tree.Plain as plain
+use Rattle.par_program_laws.specs.par_typed.declared.ty.Ty.TheVariants as ty
+use Rattle.par_program_laws.specs.par_typed.declared.table.ChannelInfo.{ChannelInfo}
+use Rattle.par_program_laws.specs.par_typed.declared.table.Table.{Table}
+use Rattle.par_program_laws.specs.par_typed.Plain as typed
+use Rattle.par_program_laws.specs.par_typed.Plain.{Mark, TExp, MayTExp, TExps}
+use Rattle.par_program_laws.specs.par_typed.Nodes.{may_nodes}
 use Rattle.par_source_laws.specs.par_names.Exprs as names
 use Rattle.par_source_laws.specs.par_names.Declarations.{locks, doubles}
 use Rattle.par_source_laws.specs.par_names.Policies.{View, lock_faults}
@@ -31,39 +34,39 @@ use Rattle.par_source_laws.specs.par_names.Stmts.{declares, all_caught, stmt_fau
 use Rattle.par_source_laws.specs.par_names.Stmts.{may_braces_faults, else_faults, stmts_faults}
 use Rattle.par_source_laws.specs.par_names.Stmts.{catches_faults}
 use Rattle.par_source_laws.specs.par_names.Stmts.{handler_faults}
-use Rattle.par_annotation_laws.specs.par_scope.declared.members.Place.{Place}
-use Rattle.par_annotation_laws.specs.par_scope.declared.locals.Slot.{Slot}
-use Rattle.par_annotation_laws.specs.par_scope.declared.meaning.Receiver.{Receiver}
-use Rattle.par_annotation_laws.specs.par_scope.declared.meaning.Receiver.TheVariants.{Own, Class}
-use Rattle.par_annotation_laws.specs.par_scope.declared.meaning.Receiver.TheVariants.{Object}
-use Rattle.par_annotation_laws.specs.par_scope.declared.meaning.Callee.{Callee}
-use Rattle.par_annotation_laws.specs.par_scope.declared.meaning.Callee.TheVariants.{Unknown}
-use Rattle.par_annotation_laws.specs.par_scope.declared.meaning.Callee.TheVariants.{Channel}
-use Rattle.par_annotation_laws.specs.par_scope.declared.meaning.Callee.TheVariants.{Method}
-use Rattle.par_annotation_laws.specs.par_scope.Names.{number_in}
-use Rattle.par_annotation_laws.specs.par_scope.Home.{Home}
-use Rattle.par_annotation_laws.specs.par_scope.Members.{field_at, channel_at, method_at}
-use Rattle.par_annotation_laws.specs.par_scope.Members.{field_is_static}
-use Rattle.par_annotation_laws.specs.par_scope.Members.{method_is_static}
-use Rattle.par_annotation_laws.specs.par_scope.Meaning.{type_of, called_on, receiver_of, selected}
-use Rattle.par_annotation_laws.specs.par_scope.Meaning.{called}
-use Rattle.par_annotation_laws.specs.par_scope.Meaning.{sure}
-use Rattle.par_annotation_laws.specs.par_type_rules.Stmts.{slot_of}
+use Rattle.par_type_rules.specs.par_scope.declared.members.Place.{Place}
+use Rattle.par_type_rules.specs.par_scope.declared.locals.Slot.{Slot}
+use Rattle.par_type_rules.specs.par_scope.declared.meaning.Receiver.{Receiver}
+use Rattle.par_type_rules.specs.par_scope.declared.meaning.Receiver.TheVariants.{Own, Class}
+use Rattle.par_type_rules.specs.par_scope.declared.meaning.Receiver.TheVariants.{Object}
+use Rattle.par_type_rules.specs.par_scope.declared.meaning.Callee.{Callee}
+use Rattle.par_type_rules.specs.par_scope.declared.meaning.Callee.TheVariants.{Unknown}
+use Rattle.par_type_rules.specs.par_scope.declared.meaning.Callee.TheVariants.{Channel}
+use Rattle.par_type_rules.specs.par_scope.declared.meaning.Callee.TheVariants.{Method}
+use Rattle.par_type_rules.specs.par_scope.Names.{number_in}
+use Rattle.par_type_rules.specs.par_scope.Home.{Home}
+use Rattle.par_type_rules.specs.par_scope.Members.{field_at, channel_at, method_at}
+use Rattle.par_type_rules.specs.par_scope.Members.{field_is_static}
+use Rattle.par_type_rules.specs.par_scope.Members.{method_is_static}
+use Rattle.par_type_rules.specs.par_scope.Meaning.{type_of, called_on, receiver_of, selected}
+use Rattle.par_type_rules.specs.par_scope.Meaning.{called}
+use Rattle.par_type_rules.specs.par_scope.Meaning.{sure}
+use Rattle.par_type_rules.specs.Stmts.{slot_of}
 use Rattle.par_faults.specs.par_resolved.Resolved.{table_of}
-use Rattle.par_annotation_laws.specs.Frames.{Frame, Var, var_at, var_named, with_local, further}
-use Rattle.par_annotation_laws.specs.Exprs.{own_this, own_field, name_typed, negation, number_of}
-use Rattle.par_annotation_laws.specs.Exprs.{selection, own_receiver, method_on}
-use Rattle.par_annotation_laws.specs.Exprs.{callee_on, first, by_way, through, call, typed_exp}
-use Rattle.par_annotation_laws.specs.Exprs.{typed_may}
-use Rattle.par_annotation_laws.specs.Exprs.{typed_args, mark_of}
-use Rattle.par_annotation_laws.specs.Stmts.{Written, may_policy, Target, Nowhere, ToLocal, ToStatic}
-use Rattle.par_annotation_laws.specs.Stmts.{ToField, target, target_nodes, assignment}
-use Rattle.par_annotation_laws.specs.Stmts.{own_target, name_target, selected_target, behind}
-use Rattle.par_annotation_laws.specs.Stmts.{typed_sta, typed_braces, typed_may_braces, typed_else}
-use Rattle.par_annotation_laws.specs.Stmts.{typed_stas, typed_catches, typed_handler}
-use Rattle.par_annotation_laws.specs.par_scope.Own.{locals_in, braces_locals, may_braces_locals}
-use Rattle.par_annotation_laws.specs.par_scope.Own.{else_locals}
-use Rattle.par_annotation_laws.specs.par_scope.Own.{all_locals, catches_locals, handler_locals}
+use Rattle.par_type_rules.specs.Frames.{Frame, Var, var_at, var_named, with_local, further}
+use Rattle.par_type_rules.specs.TypedExprs.{own_this, own_field, name_typed, negation, number_of}
+use Rattle.par_type_rules.specs.TypedExprs.{selection, own_receiver, method_on}
+use Rattle.par_type_rules.specs.TypedExprs.{callee_on, first, by_way, through, call, typed_exp}
+use Rattle.par_type_rules.specs.TypedExprs.{typed_may}
+use Rattle.par_type_rules.specs.TypedExprs.{typed_args, mark_of}
+use Rattle.par_type_rules.specs.TypedStmts.{Written, may_policy, Target, Nowhere, ToLocal, ToStatic}
+use Rattle.par_type_rules.specs.TypedStmts.{ToField, target, target_nodes, assignment}
+use Rattle.par_type_rules.specs.TypedStmts.{own_target, name_target, selected_target, behind}
+use Rattle.par_type_rules.specs.TypedStmts.{typed_sta, typed_braces, typed_may_braces, typed_else}
+use Rattle.par_type_rules.specs.TypedStmts.{typed_stas, typed_catches, typed_handler}
+use Rattle.par_type_rules.specs.par_scope.Own.{locals_in, braces_locals, may_braces_locals}
+use Rattle.par_type_rules.specs.par_scope.Own.{else_locals}
+use Rattle.par_type_rules.specs.par_scope.Own.{all_locals, catches_locals, handler_locals}
 use Rattle.par_typed_laws.specs.Tables.{IsLock, MayBePolicy}
 use Rattle.par_typed_laws.specs.Numbers.{ExpReads, MayExpRead, ExpsRead, StaInRange, ElseInRange}
 use Rattle.par_typed_laws.specs.Numbers.{StasInRange, CatchesInRange}

@@ -1,49 +1,52 @@
 -- Control comes behind a typed statement exactly where it comes behind that of the source.
 use Rattle.std.proofs.Common.{◌≡◌, ℕ, ◌+◌, Bool, true, false, not, ◌||◌, Option, Some, None, refl}
 use Rattle.std.proofs.Common.{ap, ◌∙◌}
-use Rattle.par_body_laws.specs.par_tree.Plain.{Exp, Int, True, False, Null, This, New, Name, Field}
-use Rattle.par_body_laws.specs.par_tree.Plain.{Call, Neg}
-use Rattle.par_body_laws.specs.par_tree.Plain.{Not, Binary}
-use Rattle.par_body_laws.specs.par_tree.Plain.{Sta, Block, If, While, Try, Return, Break, Continue}
-use Rattle.par_body_laws.specs.par_tree.Plain.{Throw, Open}
-use Rattle.par_body_laws.specs.par_tree.Plain.{Close}
-use Rattle.par_body_laws.specs.par_tree.Plain.{Declare, Assign, Do, When, Braces, In, MayBraces}
-use Rattle.par_body_laws.specs.par_tree.Plain.{NoBraces}
-use Rattle.par_body_laws.specs.par_tree.Plain.{Else, NoElse, Otherwise, Stas, End, Then, Catches}
-use Rattle.par_body_laws.specs.par_tree.Plain.{NoCatch, Catch}
-use Rattle.par_body_laws.specs.par_tree.Plain.{On}
-use Rattle.par_body_laws.specs.par_tree.Plain as plain
-use Rattle.par_flow_laws.specs.par_typed.declared.table.ChannelInfo.{ChannelInfo}
-use Rattle.par_flow_laws.specs.par_typed.Plain.{Mark, TExp, MayTExp, TExps}
-use Rattle.par_flow_laws.specs.par_typed.Nodes.{may_nodes}
-use Rattle.par_body_laws.specs.par_completes.Completes.{is_true, breaks, braces_break}
-use Rattle.par_body_laws.specs.par_completes.Completes.{may_braces_break}
-use Rattle.par_body_laws.specs.par_completes.Completes.{else_breaks, some_break, some_catch_breaks}
-use Rattle.par_body_laws.specs.par_completes.Completes.{completes, braces_complete}
-use Rattle.par_body_laws.specs.par_completes.Completes.{may_braces_complete}
-use Rattle.par_body_laws.specs.par_completes.Completes.{else_completes, last_completes}
-use Rattle.par_body_laws.specs.par_completes.Completes.{some_catch_completes}
-use Rattle.par_body_laws.specs.par_completes.Typed as ends
-use Rattle.par_annotation_laws.specs.par_scope.declared.members.Place.{Place}
-use Rattle.par_annotation_laws.specs.par_scope.declared.meaning.Receiver.{Receiver}
-use Rattle.par_annotation_laws.specs.par_scope.declared.meaning.Receiver.TheVariants as on
-use Rattle.par_annotation_laws.specs.par_scope.declared.meaning.Callee.{Callee}
-use Rattle.par_annotation_laws.specs.par_scope.declared.meaning.Callee.TheVariants as callee
-use Rattle.par_annotation_laws.specs.par_scope.Home.{Home}
-use Rattle.par_annotation_laws.specs.par_scope.Members.{field_at, channel_at, field_is_static}
-use Rattle.par_annotation_laws.specs.par_scope.Meaning.{type_of, called_on, receiver_of, selected}
-use Rattle.par_annotation_laws.specs.par_scope.Meaning.{called}
-use Rattle.par_annotation_laws.specs.par_scope.Meaning.{sure}
-use Rattle.par_annotation_laws.specs.Frames.{Frame, Var, var_named, further}
-use Rattle.par_annotation_laws.specs.Exprs.{own_this, own_field, name_typed, negation, number_of}
-use Rattle.par_annotation_laws.specs.Exprs.{selection, callee_on, by_way, through, call, typed_exp}
-use Rattle.par_annotation_laws.specs.Exprs.{typed_may, typed_args, mark_of}
-use Rattle.par_annotation_laws.specs.Stmts.{Written, Target, Nowhere, ToLocal, ToStatic, ToField}
-use Rattle.par_annotation_laws.specs.Stmts.{target}
-use Rattle.par_annotation_laws.specs.Stmts.{assignment, behind}
-use Rattle.par_annotation_laws.specs.par_scope.Own.{braces_locals, handler_locals}
-use Rattle.par_annotation_laws.specs.Stmts.{typed_sta, typed_braces, typed_may_braces, typed_else}
-use Rattle.par_annotation_laws.specs.Stmts.{typed_stas, typed_catches}
+use Rattle.par_program_laws.specs.par_tree.Plain.{Exp, Int, True, False, Null, This, New, Name}
+use Rattle.par_program_laws.specs.par_tree.Plain.{Field}
+use Rattle.par_program_laws.specs.par_tree.Plain.{Call, Neg}
+use Rattle.par_program_laws.specs.par_tree.Plain.{Not, Binary}
+use Rattle.par_program_laws.specs.par_tree.Plain.{Sta, Block, If, While, Try, Return, Break}
+use Rattle.par_program_laws.specs.par_tree.Plain.{Continue}
+use Rattle.par_program_laws.specs.par_tree.Plain.{Throw, Open}
+use Rattle.par_program_laws.specs.par_tree.Plain.{Close}
+use Rattle.par_program_laws.specs.par_tree.Plain.{Declare, Assign, Do, When, Braces, In, MayBraces}
+use Rattle.par_program_laws.specs.par_tree.Plain.{NoBraces}
+use Rattle.par_program_laws.specs.par_tree.Plain.{Else, NoElse, Otherwise, Stas, End, Then, Catches}
+use Rattle.par_program_laws.specs.par_tree.Plain.{NoCatch, Catch}
+use Rattle.par_program_laws.specs.par_tree.Plain.{On}
+use Rattle.par_program_laws.specs.par_tree.Plain as plain
+use Rattle.par_program_laws.specs.par_typed.declared.table.ChannelInfo.{ChannelInfo}
+use Rattle.par_program_laws.specs.par_typed.Plain.{Mark, TExp, MayTExp, TExps}
+use Rattle.par_program_laws.specs.par_typed.Nodes.{may_nodes}
+use Rattle.par_program_laws.specs.par_completes.Completes.{is_true, breaks, braces_break}
+use Rattle.par_program_laws.specs.par_completes.Completes.{may_braces_break}
+use Rattle.par_program_laws.specs.par_completes.Completes.{else_breaks, some_break}
+use Rattle.par_program_laws.specs.par_completes.Completes.{some_catch_breaks}
+use Rattle.par_program_laws.specs.par_completes.Completes.{completes, braces_complete}
+use Rattle.par_program_laws.specs.par_completes.Completes.{may_braces_complete}
+use Rattle.par_program_laws.specs.par_completes.Completes.{else_completes, last_completes}
+use Rattle.par_program_laws.specs.par_completes.Completes.{some_catch_completes}
+use Rattle.par_program_laws.specs.par_completes.Typed as ends
+use Rattle.par_type_rules.specs.par_scope.declared.members.Place.{Place}
+use Rattle.par_type_rules.specs.par_scope.declared.meaning.Receiver.{Receiver}
+use Rattle.par_type_rules.specs.par_scope.declared.meaning.Receiver.TheVariants as on
+use Rattle.par_type_rules.specs.par_scope.declared.meaning.Callee.{Callee}
+use Rattle.par_type_rules.specs.par_scope.declared.meaning.Callee.TheVariants as callee
+use Rattle.par_type_rules.specs.par_scope.Home.{Home}
+use Rattle.par_type_rules.specs.par_scope.Members.{field_at, channel_at, field_is_static}
+use Rattle.par_type_rules.specs.par_scope.Meaning.{type_of, called_on, receiver_of, selected}
+use Rattle.par_type_rules.specs.par_scope.Meaning.{called}
+use Rattle.par_type_rules.specs.par_scope.Meaning.{sure}
+use Rattle.par_type_rules.specs.Frames.{Frame, Var, var_named, further}
+use Rattle.par_type_rules.specs.TypedExprs.{own_this, own_field, name_typed, negation, number_of}
+use Rattle.par_type_rules.specs.TypedExprs.{selection, callee_on, by_way, through, call, typed_exp}
+use Rattle.par_type_rules.specs.TypedExprs.{typed_may, typed_args, mark_of}
+use Rattle.par_type_rules.specs.TypedStmts.{Written, Target, Nowhere, ToLocal, ToStatic, ToField}
+use Rattle.par_type_rules.specs.TypedStmts.{target}
+use Rattle.par_type_rules.specs.TypedStmts.{assignment, behind}
+use Rattle.par_type_rules.specs.par_scope.Own.{braces_locals, handler_locals}
+use Rattle.par_type_rules.specs.TypedStmts.{typed_sta, typed_braces, typed_may_braces, typed_else}
+use Rattle.par_type_rules.specs.TypedStmts.{typed_stas, typed_catches}
 
 -- ---- the literal `true`
 

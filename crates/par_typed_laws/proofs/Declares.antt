@@ -3,20 +3,21 @@ use Rattle.std.proofs.Common.{◌≡◌, ℕ, Bool, true, not, List, [], ◌∷�
 use Rattle.std.proofs.Common.{Some, None, refl, ap, subst, ◌∙◌}
 use Rattle.std.specs.Prelude.{slice_get, unwrap_or}
 use Rattle.std.specs.List.{AllByRecursion}
-use Rattle.par_body_laws.specs.par_tree.declared.types.TypeTree.{TypeTree}
-use Rattle.par_body_laws.specs.par_tree.declared.types.TypeTree.TheVariants as type
-use Rattle.par_body_laws.specs.par_tree.Plain.{Class, Source}
-use Rattle.par_body_laws.specs.par_tree.Plain.{Sta, Block, If, While, Try, Return, Break, Continue}
-use Rattle.par_body_laws.specs.par_tree.Plain.{Throw, Open}
-use Rattle.par_body_laws.specs.par_tree.Plain.{Close}
-use Rattle.par_body_laws.specs.par_tree.Plain.{Declare, Assign, Do, When, Braces, In, MayBraces}
-use Rattle.par_body_laws.specs.par_tree.Plain.{NoBraces}
-use Rattle.par_body_laws.specs.par_tree.Plain.{Else, NoElse, Otherwise, Stas, End, Then, Catches}
-use Rattle.par_body_laws.specs.par_tree.Plain.{NoCatch, Catch}
-use Rattle.par_body_laws.specs.par_tree.Plain.{On}
-use Rattle.par_body_laws.specs.par_tree.Plain as plain
-use Rattle.par_flow_laws.specs.par_typed.declared.ty.Ty.{Ty}
-use Rattle.par_flow_laws.specs.par_typed.declared.table.Table.{Table}
+use Rattle.par_program_laws.specs.par_tree.declared.types.TypeTree.{TypeTree}
+use Rattle.par_program_laws.specs.par_tree.declared.types.TypeTree.TheVariants as type
+use Rattle.par_program_laws.specs.par_tree.Plain.{Class, Source}
+use Rattle.par_program_laws.specs.par_tree.Plain.{Sta, Block, If, While, Try, Return, Break}
+use Rattle.par_program_laws.specs.par_tree.Plain.{Continue}
+use Rattle.par_program_laws.specs.par_tree.Plain.{Throw, Open}
+use Rattle.par_program_laws.specs.par_tree.Plain.{Close}
+use Rattle.par_program_laws.specs.par_tree.Plain.{Declare, Assign, Do, When, Braces, In, MayBraces}
+use Rattle.par_program_laws.specs.par_tree.Plain.{NoBraces}
+use Rattle.par_program_laws.specs.par_tree.Plain.{Else, NoElse, Otherwise, Stas, End, Then, Catches}
+use Rattle.par_program_laws.specs.par_tree.Plain.{NoCatch, Catch}
+use Rattle.par_program_laws.specs.par_tree.Plain.{On}
+use Rattle.par_program_laws.specs.par_tree.Plain as plain
+use Rattle.par_program_laws.specs.par_typed.declared.ty.Ty.{Ty}
+use Rattle.par_program_laws.specs.par_typed.declared.table.Table.{Table}
 use Rattle.par_refusals.specs.First.{when, broken}
 use Rattle.par_source_laws.specs.par_names.Exprs as names
 use Rattle.par_source_laws.specs.par_names.Declarations.{classes, doubles}
@@ -25,21 +26,21 @@ use Rattle.par_source_laws.specs.par_names.Policies.{may_policy_faults}
 use Rattle.par_source_laws.specs.par_names.Policies.{type_fault}
 use Rattle.par_source_laws.specs.par_names.Program.{view_behind}
 use Rattle.par_source_laws.specs.par_names.Stmts as rules
-use Rattle.par_annotation_laws.specs.par_scope.Names.{names_of}
-use Rattle.par_annotation_laws.specs.par_scope.Locals.{Scope}
-use Rattle.par_annotation_laws.specs.par_scope.Home.{Home, class_named}
-use Rattle.par_body_laws.specs.par_completes.Completes.{completes}
-use Rattle.par_annotation_laws.specs.par_type_rules.Exprs.{value_faults}
-use Rattle.par_annotation_laws.specs.par_type_rules.Stmts as types
-use Rattle.par_annotation_laws.specs.par_type_rules.Stmts.{throw_fault, test_faults, slot_of}
-use Rattle.par_annotation_laws.specs.par_type_rules.Stmts.{declares}
-use Rattle.par_annotation_laws.specs.par_type_rules.Stmts.{stmt_faults}
-use Rattle.par_annotation_laws.specs.par_type_rules.Stmts.{braces_faults, may_braces_faults}
-use Rattle.par_annotation_laws.specs.par_type_rules.Stmts.{else_faults}
-use Rattle.par_annotation_laws.specs.par_type_rules.Stmts.{stmts_faults}
-use Rattle.par_annotation_laws.specs.par_type_rules.Stmts.{catches_faults, handler_faults}
-use Rattle.par_annotation_laws.specs.par_type_rules.Methods.{home_of}
-use Rattle.par_annotation_laws.specs.Exprs.{numbered}
+use Rattle.par_type_rules.specs.par_scope.Names.{names_of}
+use Rattle.par_type_rules.specs.par_scope.Locals.{Scope}
+use Rattle.par_type_rules.specs.par_scope.Home.{Home, class_named}
+use Rattle.par_program_laws.specs.par_completes.Completes.{completes}
+use Rattle.par_type_rules.specs.Exprs.{value_faults}
+use Rattle.par_type_rules.specs.Stmts as types
+use Rattle.par_type_rules.specs.Stmts.{throw_fault, test_faults, slot_of}
+use Rattle.par_type_rules.specs.Stmts.{declares}
+use Rattle.par_type_rules.specs.Stmts.{stmt_faults}
+use Rattle.par_type_rules.specs.Stmts.{braces_faults, may_braces_faults}
+use Rattle.par_type_rules.specs.Stmts.{else_faults}
+use Rattle.par_type_rules.specs.Stmts.{stmts_faults}
+use Rattle.par_type_rules.specs.Stmts.{catches_faults, handler_faults}
+use Rattle.par_type_rules.specs.Methods.{home_of}
+use Rattle.par_type_rules.specs.TypedExprs.{numbered}
 use Rattle.par_faults.specs.par_resolved.Numbers as numbers
 use Rattle.par_faults.specs.par_resolved.Numbers.{number}
 use Rattle.par_faults.specs.par_resolved.Resolved.{Resolved, resolved, table_of}
@@ -47,7 +48,7 @@ use Rattle.par_parts.specs.Statements.{inside, in_braces, in_may_braces, in_else
 use Rattle.par_parts.specs.Statements.{in_all}
 use Rattle.par_parts.specs.Statements.{in_catches}
 use Rattle.par_parts.specs.Written.{stmt_types}
-use Rattle.par_body_laws.specs.Makes.{IsOrdinary}
+use Rattle.par_program_laws.specs.Makes.{IsOrdinary}
 use Rattle.par_typed_laws.specs.Signatures.{IsValueType}
 use Rattle.par_typed_laws.proofs.Lists.{none_left, none_right, of_both}
 use Rattle.par_typed_laws.proofs.Programs.{names-class_infos}

@@ -7,15 +7,15 @@ use Rattle.std.specs.List.{AllByRecursion, list_any, range_with_len}
 use Rattle.std.proofs.lemmas.List.{length-map, length-append}
 use Rattle.std.proofs.lemmas.List.Sums.{sum_by-cons}
 use Rattle.std.specs.Str.{bytes_eq}
-use Rattle.par_body_laws.specs.par_tree.declared.types.TypeTree.{TypeTree}
-use Rattle.par_body_laws.specs.par_tree.declared.types.TypeTree.TheVariants as type
-use Rattle.par_body_laws.specs.par_tree.declared.policy.LockTree.{LockTree}
-use Rattle.par_body_laws.specs.par_tree.declared.policy.PolicyExpr.{PolicyExpr}
-use Rattle.par_body_laws.specs.par_tree.declared.decl.LockDecl.{LockDecl}
-use Rattle.par_body_laws.specs.par_tree.declared.decl.FieldDecl.{FieldDecl}
-use Rattle.par_body_laws.specs.par_tree.declared.decl.PolicyDecl.{PolicyDecl}
-use Rattle.par_body_laws.specs.par_tree.Plain.{Class, Method, Source}
-use Rattle.par_flow_laws.specs.par_typed.declared.table.Table.{Table}
+use Rattle.par_program_laws.specs.par_tree.declared.types.TypeTree.{TypeTree}
+use Rattle.par_program_laws.specs.par_tree.declared.types.TypeTree.TheVariants as type
+use Rattle.par_program_laws.specs.par_tree.declared.policy.LockTree.{LockTree}
+use Rattle.par_program_laws.specs.par_tree.declared.policy.PolicyExpr.{PolicyExpr}
+use Rattle.par_program_laws.specs.par_tree.declared.decl.LockDecl.{LockDecl}
+use Rattle.par_program_laws.specs.par_tree.declared.decl.FieldDecl.{FieldDecl}
+use Rattle.par_program_laws.specs.par_tree.declared.decl.PolicyDecl.{PolicyDecl}
+use Rattle.par_program_laws.specs.par_tree.Plain.{Class, Method, Source}
+use Rattle.par_program_laws.specs.par_typed.declared.table.Table.{Table}
 use Rattle.par_source_laws.specs.par_names.Declarations.{actors, locks, policies, classes}
 use Rattle.par_source_laws.specs.par_names.Declarations.{declared_classes}
 use Rattle.par_source_laws.specs.par_names.Program.{name_faults}
@@ -38,9 +38,9 @@ use Rattle.par_faults.specs.par_resolved.Resolved.{field_infos, channel_info, pa
 use Rattle.par_faults.specs.par_resolved.Resolved.{throw_info, lock_set}
 use Rattle.par_faults.specs.par_resolved.Resolved.{this_type, local_types, method_info, class_info}
 use Rattle.par_faults.specs.par_resolved.Resolved.{class_infos, has_main, table_of}
-use Rattle.par_flow_laws.specs.par_typed.Members.{IsClass}
+use Rattle.par_program_laws.specs.par_typed.Members.{IsClass}
 use Rattle.par_typed_laws.specs.Tables.{IsPolicy, IsLock, MayBePolicy, AreLocks, IsType}
-use Rattle.par_body_laws.specs.Locals.{arrivals}
+use Rattle.par_program_laws.specs.Locals.{arrivals}
 use Rattle.par_typed_laws.specs.Tables.{FieldInRange, ChannelInRange, ParamInRange}
 use Rattle.par_typed_laws.specs.Tables.{ThrowInRange, MethodInRange, ClassInRange, LockInRange}
 use Rattle.par_typed_laws.specs.Tables as tables

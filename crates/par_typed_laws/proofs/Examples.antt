@@ -1,22 +1,23 @@
 -- Worked bodies, over a table of one class with a static method.
 use Rattle.std.proofs.Common.{◌≡◌, ℕ, ◌<◌, pos, Bool, true, false, [], ◌∷◌, None, refl, arith}
 use Rattle.std.specs.Prelude.{codes}
-use Rattle.par_flow_laws.specs.par_typed.declared.ty.Ty.{Ty}
-use Rattle.par_flow_laws.specs.par_typed.declared.ty.Ty.TheVariants as ty
-use Rattle.par_flow_laws.specs.par_typed.declared.table.FieldInfo.{FieldInfo}
-use Rattle.par_flow_laws.specs.par_typed.declared.table.MethodInfo.{MethodInfo}
-use Rattle.par_flow_laws.specs.par_typed.declared.table.ClassInfo.{ClassInfo}
-use Rattle.par_flow_laws.specs.par_typed.declared.table.Table.{Table}
-use Rattle.par_flow_laws.specs.par_typed.Plain.{Mark, mark, Int, Boolean, Null, Local, TSta, Block}
-use Rattle.par_flow_laws.specs.par_typed.Plain.{Break}
-use Rattle.par_flow_laws.specs.par_typed.Plain.{SetLocal, SetStatic, Then, End}
+use Rattle.par_program_laws.specs.par_typed.declared.ty.Ty.{Ty}
+use Rattle.par_program_laws.specs.par_typed.declared.ty.Ty.TheVariants as ty
+use Rattle.par_program_laws.specs.par_typed.declared.table.FieldInfo.{FieldInfo}
+use Rattle.par_program_laws.specs.par_typed.declared.table.MethodInfo.{MethodInfo}
+use Rattle.par_program_laws.specs.par_typed.declared.table.ClassInfo.{ClassInfo}
+use Rattle.par_program_laws.specs.par_typed.declared.table.Table.{Table}
+use Rattle.par_program_laws.specs.par_typed.Plain.{Mark, mark, Int, Boolean, Null, Local, TSta}
+use Rattle.par_program_laws.specs.par_typed.Plain.{Block}
+use Rattle.par_program_laws.specs.par_typed.Plain.{Break}
+use Rattle.par_program_laws.specs.par_typed.Plain.{SetLocal, SetStatic, Then, End}
 use Rattle.par_typed_laws.specs.Orderly.{IsBodyOf}
-use Rattle.par_body_laws.specs.Names.{ExpNames, StaNames}
+use Rattle.par_program_laws.specs.BodyNames.{ExpNames, StaNames}
 use Rattle.par_typed_laws.specs.Fits.{ExpFits, StaFits}
 use Rattle.par_typed_laws.specs.Control.{StaReached}
-use Rattle.par_flow_laws.specs.par_typed.Nodes.{nodes, stmt_nodes}
-use Rattle.par_annotation_laws.specs.Points.{count_from, points, stmt_points}
-use Rattle.par_body_laws.specs.Locals.{behind}
+use Rattle.par_program_laws.specs.par_typed.Nodes.{nodes, stmt_nodes}
+use Rattle.par_type_rules.specs.Points.{count_from, points, stmt_points}
+use Rattle.par_program_laws.specs.Locals.{behind}
 use Rattle.par_typed_laws.specs.SetFirst.{SetsFirst}
 use Rattle.par_typed_laws.specs.Numbers.{ExpReads, StaInRange}
 

@@ -5,17 +5,18 @@ use Rattle.std.proofs.Common.{append-nil, add-zero, map}
 use Rattle.std.specs.Prelude.{flat_map, slice_get}
 use Rattle.std.specs.List.{AllByRecursion}
 use Rattle.std.proofs.lemmas.List.{length-map, length-append}
-use Rattle.par_body_laws.specs.par_tree.declared.decl.ParamDecl.{ParamDecl}
-use Rattle.par_body_laws.specs.par_tree.declared.types.TypeTree.{TypeTree}
-use Rattle.par_body_laws.specs.par_tree.Plain.{Sta, Block, If, While, Try, Return, Break, Continue}
-use Rattle.par_body_laws.specs.par_tree.Plain.{Throw, Open}
-use Rattle.par_body_laws.specs.par_tree.Plain.{Close}
-use Rattle.par_body_laws.specs.par_tree.Plain.{Declare, Assign, Do, When, Class, Method}
-use Rattle.par_body_laws.specs.par_tree.Plain.{Declaration}
-use Rattle.par_body_laws.specs.par_tree.Plain.{Source}
-use Rattle.par_body_laws.specs.par_tree.Plain as plain
-use Rattle.par_flow_laws.specs.par_typed.declared.ty.Ty.{Ty}
-use Rattle.par_flow_laws.specs.par_typed.declared.table.Table.{Table}
+use Rattle.par_program_laws.specs.par_tree.declared.decl.ParamDecl.{ParamDecl}
+use Rattle.par_program_laws.specs.par_tree.declared.types.TypeTree.{TypeTree}
+use Rattle.par_program_laws.specs.par_tree.Plain.{Sta, Block, If, While, Try, Return, Break}
+use Rattle.par_program_laws.specs.par_tree.Plain.{Continue}
+use Rattle.par_program_laws.specs.par_tree.Plain.{Throw, Open}
+use Rattle.par_program_laws.specs.par_tree.Plain.{Close}
+use Rattle.par_program_laws.specs.par_tree.Plain.{Declare, Assign, Do, When, Class, Method}
+use Rattle.par_program_laws.specs.par_tree.Plain.{Declaration}
+use Rattle.par_program_laws.specs.par_tree.Plain.{Source}
+use Rattle.par_program_laws.specs.par_tree.Plain as plain
+use Rattle.par_program_laws.specs.par_typed.declared.ty.Ty.{Ty}
+use Rattle.par_program_laws.specs.par_typed.declared.table.Table.{Table}
 use Rattle.par_source_laws.specs.par_names.Declarations.{classes, builtins, classes_in, doubles}
 use Rattle.par_source_laws.specs.par_names.Methods as named
 use Rattle.par_source_laws.specs.par_names.Methods.{head_faults, param_faults, effect_faults}
@@ -24,23 +25,23 @@ use Rattle.par_source_laws.specs.par_names.Policies.{View, policy_faults, may_po
 use Rattle.par_source_laws.specs.par_names.Policies.{lock_faults}
 use Rattle.par_source_laws.specs.par_names.Policies.{type_fault, result_fault}
 use Rattle.par_source_laws.specs.par_names.Program.{view_behind, name_faults}
-use Rattle.par_annotation_laws.specs.par_scope.Names.{names_of}
-use Rattle.par_annotation_laws.specs.par_scope.Locals.{no_locals}
-use Rattle.par_annotation_laws.specs.par_scope.Home.{Home, class_named, result_written}
-use Rattle.par_annotation_laws.specs.par_type_rules.Stmts.{braces_faults}
-use Rattle.par_annotation_laws.specs.par_type_rules.Methods as rules
-use Rattle.par_annotation_laws.specs.par_type_rules.Methods.{home_of, param_slot, end_fault}
-use Rattle.par_annotation_laws.specs.par_type_rules.Methods.{fields_faults}
-use Rattle.par_annotation_laws.specs.par_type_rules.Methods.{method_faults}
-use Rattle.par_annotation_laws.specs.par_type_rules.Methods.{methods_faults, class_faults}
-use Rattle.par_annotation_laws.specs.par_type_rules.Program.{declaration_faults}
-use Rattle.par_annotation_laws.specs.par_type_rules.Program.{declarations_faults}
-use Rattle.par_annotation_laws.specs.par_type_rules.Program.{type_faults}
-use Rattle.par_annotation_laws.specs.Frames.{Frame, with_local}
-use Rattle.par_annotation_laws.specs.Stmts.{Written}
-use Rattle.par_annotation_laws.specs.Bodies.{first_number, no_frame, with_params, typed_body}
-use Rattle.par_annotation_laws.specs.Bodies.{typed_methods, typed_class, typed_declaration}
-use Rattle.par_annotation_laws.specs.Bodies.{typed_declarations}
+use Rattle.par_type_rules.specs.par_scope.Names.{names_of}
+use Rattle.par_type_rules.specs.par_scope.Locals.{no_locals}
+use Rattle.par_type_rules.specs.par_scope.Home.{Home, class_named, result_written}
+use Rattle.par_type_rules.specs.Stmts.{braces_faults}
+use Rattle.par_type_rules.specs.Methods as rules
+use Rattle.par_type_rules.specs.Methods.{home_of, param_slot, end_fault}
+use Rattle.par_type_rules.specs.Methods.{fields_faults}
+use Rattle.par_type_rules.specs.Methods.{method_faults}
+use Rattle.par_type_rules.specs.Methods.{methods_faults, class_faults}
+use Rattle.par_type_rules.specs.Program.{declaration_faults}
+use Rattle.par_type_rules.specs.Program.{declarations_faults}
+use Rattle.par_type_rules.specs.Program.{type_faults}
+use Rattle.par_type_rules.specs.Frames.{Frame, with_local}
+use Rattle.par_type_rules.specs.TypedStmts.{Written}
+use Rattle.par_type_rules.specs.TypedBodies.{first_number, no_frame, with_params, typed_body}
+use Rattle.par_type_rules.specs.TypedBodies.{typed_methods, typed_class, typed_declaration}
+use Rattle.par_type_rules.specs.TypedBodies.{typed_declarations}
 use Rattle.par_faults.specs.par_resolved.Numbers.{type_of, result_of}
 use Rattle.par_faults.specs.par_resolved.Resolved.{Resolved, resolved, class_info, method_info}
 use Rattle.par_faults.specs.par_resolved.Resolved.{param_info}
@@ -49,8 +50,8 @@ use Rattle.par_parts.specs.Statements.{in_braces}
 use Rattle.par_parts.specs.Written.{stmt_types}
 use Rattle.par_faults.specs.Faults.{all_faults}
 use Rattle.par_source_laws.specs.Order.{Ascend, IsInOrder}
-use Rattle.par_flow_laws.specs.par_typed.Members.{method_at}
-use Rattle.par_body_laws.specs.Locals.{arriving, arriving_sure, BeginsWith}
+use Rattle.par_program_laws.specs.par_typed.Members.{method_at}
+use Rattle.par_program_laws.specs.Locals.{arriving, arriving_sure, BeginsWith}
 use Rattle.par_typed_laws.specs.Fits.{StaFits, ValuesFit}
 use Rattle.par_typed_laws.specs.Typed.{written_in, bodies_of}
 use Rattle.par_typed_laws.proofs.Lists.{none_left, none_right, none_of, of_both}

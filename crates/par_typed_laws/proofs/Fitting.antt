@@ -6,70 +6,72 @@ use Rattle.std.specs.Prelude.{slice_get, nat_eq}
 use Rattle.std.specs.Option.{is_some}
 use Rattle.std.proofs.lemmas.Bool.Decides.{nat_tests}
 use Rattle.std.proofs.lemmas.List.{length-append}
-use Rattle.par_flow_laws.specs.par_lexer.declared.operator.BinOp.{BinOp}
-use Rattle.par_flow_laws.specs.par_lexer.declared.operator.BinOp.TheVariants as op
-use Rattle.par_body_laws.specs.par_tree.declared.ident.Ident.{Ident}
-use Rattle.par_body_laws.specs.par_tree.Plain.{Exp, Int, True, False, Null, This, New, Name, Field}
-use Rattle.par_body_laws.specs.par_tree.Plain.{Call, Neg}
-use Rattle.par_body_laws.specs.par_tree.Plain.{Not, Binary}
-use Rattle.par_body_laws.specs.par_tree.Plain.{Exps, NoExps, More, MayExp, Absent, Present, Class}
-use Rattle.par_body_laws.specs.par_tree.Plain.{Source, place}
-use Rattle.par_flow_laws.specs.par_typed.declared.ty.Ty.{Ty}
-use Rattle.par_flow_laws.specs.par_typed.declared.ty.Ty.TheVariants as ty
-use Rattle.par_flow_laws.specs.par_typed.declared.table.FieldInfo.{FieldInfo}
-use Rattle.par_flow_laws.specs.par_typed.declared.table.ChannelInfo.{ChannelInfo}
-use Rattle.par_flow_laws.specs.par_typed.declared.table.ParamInfo.{ParamInfo}
-use Rattle.par_flow_laws.specs.par_typed.declared.table.MethodInfo.{MethodInfo}
-use Rattle.par_flow_laws.specs.par_typed.declared.table.Table.{Table}
+use Rattle.par_program_laws.specs.par_lexer.declared.operator.BinOp.{BinOp}
+use Rattle.par_program_laws.specs.par_lexer.declared.operator.BinOp.TheVariants as op
+use Rattle.par_program_laws.specs.par_tree.declared.ident.Ident.{Ident}
+use Rattle.par_program_laws.specs.par_tree.Plain.{Exp, Int, True, False, Null, This, New, Name}
+use Rattle.par_program_laws.specs.par_tree.Plain.{Field}
+use Rattle.par_program_laws.specs.par_tree.Plain.{Call, Neg}
+use Rattle.par_program_laws.specs.par_tree.Plain.{Not, Binary}
+use Rattle.par_program_laws.specs.par_tree.Plain.{Exps, NoExps, More, MayExp, Absent, Present}
+use Rattle.par_program_laws.specs.par_tree.Plain.{Class}
+use Rattle.par_program_laws.specs.par_tree.Plain.{Source, place}
+use Rattle.par_program_laws.specs.par_typed.declared.ty.Ty.{Ty}
+use Rattle.par_program_laws.specs.par_typed.declared.ty.Ty.TheVariants as ty
+use Rattle.par_program_laws.specs.par_typed.declared.table.FieldInfo.{FieldInfo}
+use Rattle.par_program_laws.specs.par_typed.declared.table.ChannelInfo.{ChannelInfo}
+use Rattle.par_program_laws.specs.par_typed.declared.table.ParamInfo.{ParamInfo}
+use Rattle.par_program_laws.specs.par_typed.declared.table.MethodInfo.{MethodInfo}
+use Rattle.par_program_laws.specs.par_typed.declared.table.Table.{Table}
 use Rattle.par_refusals.specs.First.{when, broken}
-use Rattle.par_flow_laws.specs.par_typed.Plain as typed
-use Rattle.par_flow_laws.specs.par_typed.Plain.{Mark, TExp, MayTExp, TExps, mark}
-use Rattle.par_flow_laws.specs.par_typed.Nodes.{nodes, may_nodes}
+use Rattle.par_program_laws.specs.par_typed.Plain as typed
+use Rattle.par_program_laws.specs.par_typed.Plain.{Mark, TExp, MayTExp, TExps, mark}
+use Rattle.par_program_laws.specs.par_typed.Nodes.{nodes, may_nodes}
 use Rattle.par_source_laws.specs.par_names.Exprs as names
 use Rattle.par_source_laws.specs.par_names.Members.{selected_named, callee_named}
 use Rattle.par_source_laws.specs.par_names.Policies.{View}
 use Rattle.par_source_laws.specs.par_names.Program.{view_behind}
-use Rattle.par_annotation_laws.specs.par_scope.declared.locals.Slot.{Slot}
-use Rattle.par_annotation_laws.specs.par_scope.declared.members.Place.{Place}
-use Rattle.par_annotation_laws.specs.par_scope.declared.meaning.Receiver.{Receiver}
-use Rattle.par_annotation_laws.specs.par_scope.declared.meaning.Receiver.TheVariants as on
-use Rattle.par_annotation_laws.specs.par_scope.declared.meaning.Callee.{Callee}
-use Rattle.par_annotation_laws.specs.par_scope.declared.meaning.Callee.TheVariants as callee
-use Rattle.par_annotation_laws.specs.par_scope.Names.{names_of}
-use Rattle.par_annotation_laws.specs.par_scope.Locals.{local_named, is_notnull}
-use Rattle.par_annotation_laws.specs.par_scope.Home.{Home, class_named, class_type}
-use Rattle.par_annotation_laws.specs.par_scope.Members.{field_at, channel_at, method_at, field_type}
-use Rattle.par_annotation_laws.specs.par_scope.Members.{field_is_static}
-use Rattle.par_annotation_laws.specs.par_scope.Members.{channel_type, channel_arity, way_type}
-use Rattle.par_annotation_laws.specs.par_scope.Members.{way_arity}
-use Rattle.par_annotation_laws.specs.par_scope.Members.{method_type}
-use Rattle.par_annotation_laws.specs.par_scope.Members.{method_is_static, method_params}
-use Rattle.par_annotation_laws.specs.par_scope.Members.{method_arity}
-use Rattle.par_annotation_laws.specs.par_scope.Members.{any_value}
-use Rattle.par_annotation_laws.specs.par_scope.Members.{value_of, param_slot, number_slot}
-use Rattle.par_annotation_laws.specs.par_scope.Meaning.{type_of, name_type, called_on, receiver_of}
-use Rattle.par_annotation_laws.specs.par_scope.Meaning.{selected, called}
-use Rattle.par_annotation_laws.specs.par_scope.Meaning.{arity, param_at, sure, place_type}
-use Rattle.par_annotation_laws.specs.par_scope.Meaning.{callee_type}
-use Rattle.par_annotation_laws.specs.par_type_rules.Fits.{are_alike, is_int, is_boolean}
-use Rattle.par_annotation_laws.specs.par_type_rules.Fits.{is_of_class}
-use Rattle.par_annotation_laws.specs.par_type_rules.Fits.{is_reference, operand}
-use Rattle.par_annotation_laws.specs.par_type_rules.Fits.{suits}
-use Rattle.par_annotation_laws.specs.par_type_rules.Exprs as types
-use Rattle.par_annotation_laws.specs.par_type_rules.Exprs.{misfit, misfits, count_fault}
-use Rattle.par_annotation_laws.specs.par_type_rules.Exprs.{member_fault, is_known}
-use Rattle.par_annotation_laws.specs.par_type_rules.Exprs.{unless_number, is_number}
-use Rattle.par_annotation_laws.specs.par_type_rules.Methods.{home_of}
-use Rattle.par_annotation_laws.specs.Frames.{Frame, Var, var_named}
-use Rattle.par_annotation_laws.specs.Exprs.{known, numbered, own_this, own_field, name_typed}
-use Rattle.par_annotation_laws.specs.Exprs.{negation}
-use Rattle.par_annotation_laws.specs.Exprs.{number_of, selection, own_receiver, method_on}
-use Rattle.par_annotation_laws.specs.Exprs.{callee_on, first, by_way, through, call, typed_exp}
-use Rattle.par_annotation_laws.specs.Exprs.{typed_may}
-use Rattle.par_annotation_laws.specs.Exprs.{typed_args, mark_of}
+use Rattle.par_type_rules.specs.par_scope.declared.locals.Slot.{Slot}
+use Rattle.par_type_rules.specs.par_scope.declared.members.Place.{Place}
+use Rattle.par_type_rules.specs.par_scope.declared.meaning.Receiver.{Receiver}
+use Rattle.par_type_rules.specs.par_scope.declared.meaning.Receiver.TheVariants as on
+use Rattle.par_type_rules.specs.par_scope.declared.meaning.Callee.{Callee}
+use Rattle.par_type_rules.specs.par_scope.declared.meaning.Callee.TheVariants as callee
+use Rattle.par_type_rules.specs.par_scope.Names.{names_of}
+use Rattle.par_type_rules.specs.par_scope.Locals.{local_named, is_notnull}
+use Rattle.par_type_rules.specs.par_scope.Home.{Home, class_named, class_type}
+use Rattle.par_type_rules.specs.par_scope.Members.{field_at, channel_at, method_at, field_type}
+use Rattle.par_type_rules.specs.par_scope.Members.{field_is_static}
+use Rattle.par_type_rules.specs.par_scope.Members.{channel_type, channel_arity, way_type}
+use Rattle.par_type_rules.specs.par_scope.Members.{way_arity}
+use Rattle.par_type_rules.specs.par_scope.Members.{method_type}
+use Rattle.par_type_rules.specs.par_scope.Members.{method_is_static, method_params}
+use Rattle.par_type_rules.specs.par_scope.Members.{method_arity}
+use Rattle.par_type_rules.specs.par_scope.Members.{any_value}
+use Rattle.par_type_rules.specs.par_scope.Members.{value_of, param_slot, number_slot}
+use Rattle.par_type_rules.specs.par_scope.Meaning.{type_of, name_type, called_on, receiver_of}
+use Rattle.par_type_rules.specs.par_scope.Meaning.{selected, called}
+use Rattle.par_type_rules.specs.par_scope.Meaning.{arity, param_at, sure, place_type}
+use Rattle.par_type_rules.specs.par_scope.Meaning.{callee_type}
+use Rattle.par_type_rules.specs.Fits.{are_alike, is_int, is_boolean}
+use Rattle.par_type_rules.specs.Fits.{is_of_class}
+use Rattle.par_type_rules.specs.Fits.{is_reference, operand}
+use Rattle.par_type_rules.specs.Fits.{suits}
+use Rattle.par_type_rules.specs.Exprs as types
+use Rattle.par_type_rules.specs.Exprs.{misfit, misfits, count_fault}
+use Rattle.par_type_rules.specs.Exprs.{member_fault, is_known}
+use Rattle.par_type_rules.specs.Exprs.{unless_number, is_number}
+use Rattle.par_type_rules.specs.Methods.{home_of}
+use Rattle.par_type_rules.specs.Frames.{Frame, Var, var_named}
+use Rattle.par_type_rules.specs.TypedExprs.{known, numbered, own_this, own_field, name_typed}
+use Rattle.par_type_rules.specs.TypedExprs.{negation}
+use Rattle.par_type_rules.specs.TypedExprs.{number_of, selection, own_receiver, method_on}
+use Rattle.par_type_rules.specs.TypedExprs.{callee_on, first, by_way, through, call, typed_exp}
+use Rattle.par_type_rules.specs.TypedExprs.{typed_may}
+use Rattle.par_type_rules.specs.TypedExprs.{typed_args, mark_of}
 use Rattle.par_faults.specs.par_resolved.Resolved.{resolved, class_info, table_of}
-use Rattle.par_body_laws.specs.Names as members
-use Rattle.par_body_laws.specs.Types.{Is}
+use Rattle.par_program_laws.specs.BodyNames as members
+use Rattle.par_program_laws.specs.Types.{Is}
 use Rattle.par_typed_laws.specs.Fits.{Fits, IsSure, IsReadOf, ParamsTake, IsCallOf, AreOperands}
 use Rattle.par_typed_laws.specs.Fits.{ExpFits, MayExpFits, ExpsFit}
 use Rattle.par_typed_laws.proofs.Lists.{none_left, none_right}

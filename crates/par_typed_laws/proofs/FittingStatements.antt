@@ -4,27 +4,29 @@ use Rattle.std.proofs.Common.{Option, Some, None, refl, sym, ap, subst, ◌∙�
 use Rattle.std.specs.Prelude.{flat_map, slice_get, unwrap_or}
 use Rattle.std.specs.Option.{is_some}
 use Rattle.std.proofs.lemmas.List.{length-append}
-use Rattle.par_body_laws.specs.par_tree.declared.types.TypeTree.{TypeTree}
-use Rattle.par_body_laws.specs.par_tree.declared.types.TypeTree.TheVariants as type
-use Rattle.par_body_laws.specs.par_tree.Plain.{Exp, Int, True, False, Null, This, New, Name, Field}
-use Rattle.par_body_laws.specs.par_tree.Plain.{Call, Neg}
-use Rattle.par_body_laws.specs.par_tree.Plain.{Not, Binary}
-use Rattle.par_body_laws.specs.par_tree.Plain.{MayExp, Absent, Present, Class, Source, place}
-use Rattle.par_body_laws.specs.par_tree.Plain.{Sta, Block, If, While, Try, Return, Break, Continue}
-use Rattle.par_body_laws.specs.par_tree.Plain.{Throw, Open}
-use Rattle.par_body_laws.specs.par_tree.Plain.{Close}
-use Rattle.par_body_laws.specs.par_tree.Plain.{Declare, Assign, Do, When, Braces, In, MayBraces}
-use Rattle.par_body_laws.specs.par_tree.Plain.{NoBraces, Local}
-use Rattle.par_body_laws.specs.par_tree.Plain.{Else, NoElse, Otherwise, Stas, End, Then, Catches}
-use Rattle.par_body_laws.specs.par_tree.Plain.{NoCatch, Catch}
-use Rattle.par_body_laws.specs.par_tree.Plain.{On}
-use Rattle.par_body_laws.specs.par_tree.Plain as plain
-use Rattle.par_flow_laws.specs.par_typed.declared.ty.Ty.{Ty}
-use Rattle.par_flow_laws.specs.par_typed.declared.ty.Ty.TheVariants as ty
-use Rattle.par_flow_laws.specs.par_typed.declared.table.FieldInfo.{FieldInfo}
-use Rattle.par_flow_laws.specs.par_typed.declared.table.Table.{Table}
+use Rattle.par_program_laws.specs.par_tree.declared.types.TypeTree.{TypeTree}
+use Rattle.par_program_laws.specs.par_tree.declared.types.TypeTree.TheVariants as type
+use Rattle.par_program_laws.specs.par_tree.Plain.{Exp, Int, True, False, Null, This, New, Name}
+use Rattle.par_program_laws.specs.par_tree.Plain.{Field}
+use Rattle.par_program_laws.specs.par_tree.Plain.{Call, Neg}
+use Rattle.par_program_laws.specs.par_tree.Plain.{Not, Binary}
+use Rattle.par_program_laws.specs.par_tree.Plain.{MayExp, Absent, Present, Class, Source, place}
+use Rattle.par_program_laws.specs.par_tree.Plain.{Sta, Block, If, While, Try, Return, Break}
+use Rattle.par_program_laws.specs.par_tree.Plain.{Continue}
+use Rattle.par_program_laws.specs.par_tree.Plain.{Throw, Open}
+use Rattle.par_program_laws.specs.par_tree.Plain.{Close}
+use Rattle.par_program_laws.specs.par_tree.Plain.{Declare, Assign, Do, When, Braces, In, MayBraces}
+use Rattle.par_program_laws.specs.par_tree.Plain.{NoBraces, Local}
+use Rattle.par_program_laws.specs.par_tree.Plain.{Else, NoElse, Otherwise, Stas, End, Then, Catches}
+use Rattle.par_program_laws.specs.par_tree.Plain.{NoCatch, Catch}
+use Rattle.par_program_laws.specs.par_tree.Plain.{On}
+use Rattle.par_program_laws.specs.par_tree.Plain as plain
+use Rattle.par_program_laws.specs.par_typed.declared.ty.Ty.{Ty}
+use Rattle.par_program_laws.specs.par_typed.declared.ty.Ty.TheVariants as ty
+use Rattle.par_program_laws.specs.par_typed.declared.table.FieldInfo.{FieldInfo}
+use Rattle.par_program_laws.specs.par_typed.declared.table.Table.{Table}
 use Rattle.par_refusals.specs.First.{when, broken}
-use Rattle.par_flow_laws.specs.par_typed.Plain.{TExp, mark}
+use Rattle.par_program_laws.specs.par_typed.Plain.{TExp, mark}
 use Rattle.par_source_laws.specs.par_names.Exprs as names
 use Rattle.par_source_laws.specs.par_names.Declarations.{classes, doubles}
 use Rattle.par_source_laws.specs.par_names.Members.{selected_named}
@@ -33,41 +35,41 @@ use Rattle.par_source_laws.specs.par_names.Policies.{may_policy_faults}
 use Rattle.par_source_laws.specs.par_names.Policies.{type_fault}
 use Rattle.par_source_laws.specs.par_names.Program.{view_behind}
 use Rattle.par_source_laws.specs.par_names.Stmts as rules
-use Rattle.par_annotation_laws.specs.par_scope.declared.members.Place.{Place}
-use Rattle.par_annotation_laws.specs.par_scope.declared.locals.Slot.{Slot}
-use Rattle.par_annotation_laws.specs.par_scope.declared.meaning.Receiver as meaning
-use Rattle.par_annotation_laws.specs.par_scope.declared.meaning.Receiver.TheVariants as on
-use Rattle.par_annotation_laws.specs.par_scope.Names.{names_of}
-use Rattle.par_annotation_laws.specs.par_scope.Locals.{local_named, is_notnull}
-use Rattle.par_annotation_laws.specs.par_scope.Home.{Home, class_named, class_type, type_written}
-use Rattle.par_annotation_laws.specs.par_scope.Members.{field_at, field_type, field_is_static}
-use Rattle.par_annotation_laws.specs.par_scope.Members.{any_value}
-use Rattle.par_annotation_laws.specs.par_scope.Members.{value_of}
-use Rattle.par_annotation_laws.specs.par_scope.Meaning.{type_of, name_type, receiver_of, selected}
-use Rattle.par_annotation_laws.specs.par_scope.Meaning.{place_type}
-use Rattle.par_body_laws.specs.par_completes.Completes.{completes}
-use Rattle.par_annotation_laws.specs.par_type_rules.Fits.{is_void}
-use Rattle.par_annotation_laws.specs.par_type_rules.Exprs.{expr_faults, member_fault, value_faults}
-use Rattle.par_annotation_laws.specs.par_type_rules.Stmts as types
-use Rattle.par_annotation_laws.specs.par_type_rules.Stmts.{throw_fault, test_faults, slot_of}
-use Rattle.par_annotation_laws.specs.par_type_rules.Stmts.{refuses_null}
-use Rattle.par_annotation_laws.specs.par_type_rules.Stmts.{target_slot}
-use Rattle.par_annotation_laws.specs.par_type_rules.Stmts.{result_faults, stmt_faults}
-use Rattle.par_annotation_laws.specs.par_type_rules.Stmts.{braces_faults}
-use Rattle.par_annotation_laws.specs.par_type_rules.Stmts.{may_braces_faults}
-use Rattle.par_annotation_laws.specs.par_type_rules.Stmts.{else_faults, stmts_faults}
-use Rattle.par_annotation_laws.specs.par_type_rules.Stmts.{catches_faults}
-use Rattle.par_annotation_laws.specs.par_type_rules.Stmts.{handler_faults}
-use Rattle.par_annotation_laws.specs.par_type_rules.Methods.{home_of}
-use Rattle.par_annotation_laws.specs.Frames.{Frame, Var, var_named, further}
-use Rattle.par_annotation_laws.specs.Exprs.{own_this, typed_exp, typed_may}
-use Rattle.par_annotation_laws.specs.Stmts.{Written, may_policy, Target, Nowhere, ToLocal, ToStatic}
-use Rattle.par_annotation_laws.specs.Stmts.{ToField, target, target_nodes, assignment}
-use Rattle.par_annotation_laws.specs.Stmts.{own_target, name_target, selected_target, behind}
-use Rattle.par_annotation_laws.specs.par_scope.Own.{locals_in}
-use Rattle.par_annotation_laws.specs.par_scope.Own.{braces_locals, handler_locals}
-use Rattle.par_annotation_laws.specs.Stmts.{typed_sta, typed_braces, typed_may_braces, typed_else}
-use Rattle.par_annotation_laws.specs.Stmts.{typed_stas, typed_catches}
+use Rattle.par_type_rules.specs.par_scope.declared.members.Place.{Place}
+use Rattle.par_type_rules.specs.par_scope.declared.locals.Slot.{Slot}
+use Rattle.par_type_rules.specs.par_scope.declared.meaning.Receiver as meaning
+use Rattle.par_type_rules.specs.par_scope.declared.meaning.Receiver.TheVariants as on
+use Rattle.par_type_rules.specs.par_scope.Names.{names_of}
+use Rattle.par_type_rules.specs.par_scope.Locals.{local_named, is_notnull}
+use Rattle.par_type_rules.specs.par_scope.Home.{Home, class_named, class_type, type_written}
+use Rattle.par_type_rules.specs.par_scope.Members.{field_at, field_type, field_is_static}
+use Rattle.par_type_rules.specs.par_scope.Members.{any_value}
+use Rattle.par_type_rules.specs.par_scope.Members.{value_of}
+use Rattle.par_type_rules.specs.par_scope.Meaning.{type_of, name_type, receiver_of, selected}
+use Rattle.par_type_rules.specs.par_scope.Meaning.{place_type}
+use Rattle.par_program_laws.specs.par_completes.Completes.{completes}
+use Rattle.par_type_rules.specs.Fits.{is_void}
+use Rattle.par_type_rules.specs.Exprs.{expr_faults, member_fault, value_faults}
+use Rattle.par_type_rules.specs.Stmts as types
+use Rattle.par_type_rules.specs.Stmts.{throw_fault, test_faults, slot_of}
+use Rattle.par_type_rules.specs.Stmts.{refuses_null}
+use Rattle.par_type_rules.specs.Stmts.{target_slot}
+use Rattle.par_type_rules.specs.Stmts.{result_faults, stmt_faults}
+use Rattle.par_type_rules.specs.Stmts.{braces_faults}
+use Rattle.par_type_rules.specs.Stmts.{may_braces_faults}
+use Rattle.par_type_rules.specs.Stmts.{else_faults, stmts_faults}
+use Rattle.par_type_rules.specs.Stmts.{catches_faults}
+use Rattle.par_type_rules.specs.Stmts.{handler_faults}
+use Rattle.par_type_rules.specs.Methods.{home_of}
+use Rattle.par_type_rules.specs.Frames.{Frame, Var, var_named, further}
+use Rattle.par_type_rules.specs.TypedExprs.{own_this, typed_exp, typed_may}
+use Rattle.par_type_rules.specs.TypedStmts.{Written, may_policy, Target, Nowhere, ToLocal, ToStatic}
+use Rattle.par_type_rules.specs.TypedStmts.{ToField, target, target_nodes, assignment}
+use Rattle.par_type_rules.specs.TypedStmts.{own_target, name_target, selected_target, behind}
+use Rattle.par_type_rules.specs.par_scope.Own.{locals_in}
+use Rattle.par_type_rules.specs.par_scope.Own.{braces_locals, handler_locals}
+use Rattle.par_type_rules.specs.TypedStmts.{typed_sta, typed_braces, typed_may_braces, typed_else}
+use Rattle.par_type_rules.specs.TypedStmts.{typed_stas, typed_catches}
 use Rattle.par_faults.specs.par_resolved.Numbers as numbers
 use Rattle.par_faults.specs.par_resolved.Resolved.{resolved, class_info, table_of}
 use Rattle.par_parts.specs.Statements.{inside, in_braces, in_may_braces, in_else}

@@ -5,56 +5,58 @@ use Rattle.std.proofs.Common.{map}
 use Rattle.std.specs.Prelude.{flat_map, slice_get}
 use Rattle.std.specs.List.{AllByRecursion}
 use Rattle.std.proofs.lemmas.Grind.{flat_map-append}
-use Rattle.par_body_laws.specs.par_tree.declared.decl.ParamDecl.{ParamDecl}
-use Rattle.par_body_laws.specs.par_tree.Plain.{Exp, Int, True, False, Null, This, New, Name, Field}
-use Rattle.par_body_laws.specs.par_tree.Plain.{Call, Neg}
-use Rattle.par_body_laws.specs.par_tree.Plain.{Not, Binary}
-use Rattle.par_body_laws.specs.par_tree.Plain.{Sta, Block, If, While, Try, Return, Break, Continue}
-use Rattle.par_body_laws.specs.par_tree.Plain.{Throw, Open}
-use Rattle.par_body_laws.specs.par_tree.Plain.{Close}
-use Rattle.par_body_laws.specs.par_tree.Plain.{Declare, Assign, Do, When, Braces, In, MayBraces}
-use Rattle.par_body_laws.specs.par_tree.Plain.{NoBraces}
-use Rattle.par_body_laws.specs.par_tree.Plain.{Else, NoElse, Otherwise, Stas, End, Then, Catches}
-use Rattle.par_body_laws.specs.par_tree.Plain.{NoCatch, Catch}
-use Rattle.par_body_laws.specs.par_tree.Plain.{Handler, On, Class, Method, Declaration, Source}
-use Rattle.par_body_laws.specs.par_tree.Plain as plain
-use Rattle.par_flow_laws.specs.par_typed.declared.table.MethodInfo.{MethodInfo}
-use Rattle.par_flow_laws.specs.par_typed.declared.table.Table.{Table}
-use Rattle.par_flow_laws.specs.par_typed.Plain.{TExp, TSta, Body}
+use Rattle.par_program_laws.specs.par_tree.declared.decl.ParamDecl.{ParamDecl}
+use Rattle.par_program_laws.specs.par_tree.Plain.{Exp, Int, True, False, Null, This, New, Name}
+use Rattle.par_program_laws.specs.par_tree.Plain.{Field}
+use Rattle.par_program_laws.specs.par_tree.Plain.{Call, Neg}
+use Rattle.par_program_laws.specs.par_tree.Plain.{Not, Binary}
+use Rattle.par_program_laws.specs.par_tree.Plain.{Sta, Block, If, While, Try, Return, Break}
+use Rattle.par_program_laws.specs.par_tree.Plain.{Continue}
+use Rattle.par_program_laws.specs.par_tree.Plain.{Throw, Open}
+use Rattle.par_program_laws.specs.par_tree.Plain.{Close}
+use Rattle.par_program_laws.specs.par_tree.Plain.{Declare, Assign, Do, When, Braces, In, MayBraces}
+use Rattle.par_program_laws.specs.par_tree.Plain.{NoBraces}
+use Rattle.par_program_laws.specs.par_tree.Plain.{Else, NoElse, Otherwise, Stas, End, Then, Catches}
+use Rattle.par_program_laws.specs.par_tree.Plain.{NoCatch, Catch}
+use Rattle.par_program_laws.specs.par_tree.Plain.{Handler, On, Class, Method, Declaration, Source}
+use Rattle.par_program_laws.specs.par_tree.Plain as plain
+use Rattle.par_program_laws.specs.par_typed.declared.table.MethodInfo.{MethodInfo}
+use Rattle.par_program_laws.specs.par_typed.declared.table.Table.{Table}
+use Rattle.par_program_laws.specs.par_typed.Plain.{TExp, TSta, Body}
 use Rattle.par_source_laws.specs.par_names.Declarations.{classes, builtins, classes_in}
 use Rattle.par_source_laws.specs.par_names.Program.{name_faults}
-use Rattle.par_annotation_laws.specs.par_scope.declared.locals.Slot.{Slot}
-use Rattle.par_annotation_laws.specs.par_scope.declared.members.Place.{Place}
-use Rattle.par_annotation_laws.specs.par_scope.declared.meaning.Receiver.{Receiver}
-use Rattle.par_annotation_laws.specs.par_scope.declared.meaning.Receiver.TheVariants as receiver
-use Rattle.par_annotation_laws.specs.par_scope.Names.{number_in, names_of}
-use Rattle.par_annotation_laws.specs.par_scope.Home.{Home, class_named, result_written}
-use Rattle.par_annotation_laws.specs.par_scope.Members.{field_at, field_is_static}
-use Rattle.par_annotation_laws.specs.par_scope.Meaning.{type_of, receiver_of, selected}
-use Rattle.par_annotation_laws.specs.par_type_rules.Methods.{home_of, param_slot}
+use Rattle.par_type_rules.specs.par_scope.declared.locals.Slot.{Slot}
+use Rattle.par_type_rules.specs.par_scope.declared.members.Place.{Place}
+use Rattle.par_type_rules.specs.par_scope.declared.meaning.Receiver.{Receiver}
+use Rattle.par_type_rules.specs.par_scope.declared.meaning.Receiver.TheVariants as receiver
+use Rattle.par_type_rules.specs.par_scope.Names.{number_in, names_of}
+use Rattle.par_type_rules.specs.par_scope.Home.{Home, class_named, result_written}
+use Rattle.par_type_rules.specs.par_scope.Members.{field_at, field_is_static}
+use Rattle.par_type_rules.specs.par_scope.Meaning.{type_of, receiver_of, selected}
+use Rattle.par_type_rules.specs.Methods.{home_of, param_slot}
 use Rattle.par_parts.specs.Statements.{inside, in_braces, in_may_braces, in_else}
 use Rattle.par_parts.specs.Statements.{in_all}
 use Rattle.par_parts.specs.Statements.{in_catches}
 use Rattle.par_parts.specs.Written.{stmt_queries, method_queries, declaration_queries}
 use Rattle.par_faults.specs.par_resolved.Resolved.{Resolved, resolved, class_info, method_info}
 use Rattle.par_faults.specs.par_resolved.Resolved.{table_of}
-use Rattle.par_annotation_laws.specs.Frames.{Frame, Var, var_at, var_named, with_local, further}
-use Rattle.par_annotation_laws.specs.Exprs.{own_this, typed_exp}
-use Rattle.par_annotation_laws.specs.Stmts.{Written, Target, Nowhere, ToLocal, ToStatic, ToField}
-use Rattle.par_annotation_laws.specs.Stmts.{target}
-use Rattle.par_annotation_laws.specs.Stmts.{target_nodes, assignment, own_target, name_target}
-use Rattle.par_annotation_laws.specs.Stmts.{selected_target, behind}
-use Rattle.par_annotation_laws.specs.par_scope.Own.{locals_in, braces_locals}
-use Rattle.par_annotation_laws.specs.Stmts.{typed_sta, typed_braces}
-use Rattle.par_annotation_laws.specs.par_scope.Own.{handler_locals}
-use Rattle.par_annotation_laws.specs.Stmts.{typed_may_braces}
-use Rattle.par_annotation_laws.specs.Stmts.{typed_else, typed_stas, typed_catches}
-use Rattle.par_annotation_laws.specs.Bodies.{first_number, no_frame, with_params, typed_body}
-use Rattle.par_annotation_laws.specs.Bodies.{typed_methods, typed_class, typed_declaration}
-use Rattle.par_annotation_laws.specs.Bodies.{typed_declarations}
+use Rattle.par_type_rules.specs.Frames.{Frame, Var, var_at, var_named, with_local, further}
+use Rattle.par_type_rules.specs.TypedExprs.{own_this, typed_exp}
+use Rattle.par_type_rules.specs.TypedStmts.{Written, Target, Nowhere, ToLocal, ToStatic, ToField}
+use Rattle.par_type_rules.specs.TypedStmts.{target}
+use Rattle.par_type_rules.specs.TypedStmts.{target_nodes, assignment, own_target, name_target}
+use Rattle.par_type_rules.specs.TypedStmts.{selected_target, behind}
+use Rattle.par_type_rules.specs.par_scope.Own.{locals_in, braces_locals}
+use Rattle.par_type_rules.specs.TypedStmts.{typed_sta, typed_braces}
+use Rattle.par_type_rules.specs.par_scope.Own.{handler_locals}
+use Rattle.par_type_rules.specs.TypedStmts.{typed_may_braces}
+use Rattle.par_type_rules.specs.TypedStmts.{typed_else, typed_stas, typed_catches}
+use Rattle.par_type_rules.specs.TypedBodies.{first_number, no_frame, with_params, typed_body}
+use Rattle.par_type_rules.specs.TypedBodies.{typed_methods, typed_class, typed_declaration}
+use Rattle.par_type_rules.specs.TypedBodies.{typed_declarations}
 use Rattle.par_source_laws.specs.Order.{Ascend, IsInOrder}
-use Rattle.par_flow_laws.specs.par_typed.Members.{method_at}
-use Rattle.par_body_laws.specs.Uses.{StaUses, ElseUses, StasUse, CatchesUse}
+use Rattle.par_program_laws.specs.par_typed.Members.{method_at}
+use Rattle.par_program_laws.specs.Uses.{StaUses, ElseUses, StasUse, CatchesUse}
 use Rattle.par_typed_laws.specs.Typed.{written_in, bodies_of}
 use Rattle.par_typed_laws.proofs.Lists.{of_both}
 use Rattle.par_typed_laws.proofs.Ranges.{MayBe, at_place}

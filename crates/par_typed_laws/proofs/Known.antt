@@ -7,17 +7,18 @@ use Rattle.std.specs.Option.{option_map, is_some}
 use Rattle.std.specs.Str.{bytes_eq}
 use Rattle.par_index.specs.Texts.{has}
 use Rattle.par_index.proofs.Places.{position-within, position-is_some}
-use Rattle.par_body_laws.specs.par_tree.declared.ident.Ident.{Ident}
-use Rattle.par_body_laws.specs.par_tree.Plain.{Exp, Int, True, False, Null, This, New, Name, Field}
-use Rattle.par_body_laws.specs.par_tree.Plain.{Call, Neg}
-use Rattle.par_body_laws.specs.par_tree.Plain.{Not, Binary}
-use Rattle.par_body_laws.specs.par_tree.Plain.{Absent, Present, Class, Source, place}
-use Rattle.par_flow_laws.specs.par_typed.declared.ty.Ty.{Ty}
-use Rattle.par_flow_laws.specs.par_typed.declared.ty.Ty.TheVariants as ty
-use Rattle.par_flow_laws.specs.par_typed.declared.table.FieldInfo.{FieldInfo}
-use Rattle.par_flow_laws.specs.par_typed.declared.table.ChannelInfo.{ChannelInfo}
-use Rattle.par_flow_laws.specs.par_typed.declared.table.MethodInfo.{MethodInfo}
-use Rattle.par_flow_laws.specs.par_typed.declared.table.Table.{Table}
+use Rattle.par_program_laws.specs.par_tree.declared.ident.Ident.{Ident}
+use Rattle.par_program_laws.specs.par_tree.Plain.{Exp, Int, True, False, Null, This, New, Name}
+use Rattle.par_program_laws.specs.par_tree.Plain.{Field}
+use Rattle.par_program_laws.specs.par_tree.Plain.{Call, Neg}
+use Rattle.par_program_laws.specs.par_tree.Plain.{Not, Binary}
+use Rattle.par_program_laws.specs.par_tree.Plain.{Absent, Present, Class, Source, place}
+use Rattle.par_program_laws.specs.par_typed.declared.ty.Ty.{Ty}
+use Rattle.par_program_laws.specs.par_typed.declared.ty.Ty.TheVariants as ty
+use Rattle.par_program_laws.specs.par_typed.declared.table.FieldInfo.{FieldInfo}
+use Rattle.par_program_laws.specs.par_typed.declared.table.ChannelInfo.{ChannelInfo}
+use Rattle.par_program_laws.specs.par_typed.declared.table.MethodInfo.{MethodInfo}
+use Rattle.par_program_laws.specs.par_typed.declared.table.Table.{Table}
 use Rattle.par_refusals.specs.First.{when}
 use Rattle.par_source_laws.specs.par_names.Exprs as names
 use Rattle.par_source_laws.specs.par_names.Declarations as declarations
@@ -26,35 +27,35 @@ use Rattle.par_source_laws.specs.par_names.Members.{selected_named, callee_named
 use Rattle.par_source_laws.specs.par_names.Policies.{View, class_fault}
 use Rattle.par_source_laws.specs.par_names.Program.{view_behind}
 use Rattle.par_source_laws.proofs.par_names.Lookups.{at, found}
-use Rattle.par_annotation_laws.specs.par_scope.declared.locals.Slot.{Slot}
-use Rattle.par_annotation_laws.specs.par_scope.declared.members.Place.{Place}
-use Rattle.par_annotation_laws.specs.par_scope.declared.meaning.Receiver.{Receiver}
-use Rattle.par_annotation_laws.specs.par_scope.declared.meaning.Receiver.TheVariants as on
-use Rattle.par_annotation_laws.specs.par_scope.declared.meaning.Callee.{Callee}
-use Rattle.par_annotation_laws.specs.par_scope.declared.meaning.Callee.TheVariants as callee
-use Rattle.par_annotation_laws.specs.par_scope.Names.{names_of, number_in}
-use Rattle.par_annotation_laws.specs.par_scope.Locals.{slot_at, local_named}
-use Rattle.par_annotation_laws.specs.par_scope.Home.{Home, class_named, class_type}
-use Rattle.par_annotation_laws.specs.par_scope.Members.{field_at, channel_at, method_at, field_type}
-use Rattle.par_annotation_laws.specs.par_scope.Members.{field_is_static}
-use Rattle.par_annotation_laws.specs.par_scope.Members.{channel_type, method_type, method_is_static}
-use Rattle.par_annotation_laws.specs.par_scope.Members.{any_value}
-use Rattle.par_annotation_laws.specs.par_scope.Meaning.{type_of, type_of_name, name_type}
-use Rattle.par_annotation_laws.specs.par_scope.Meaning.{receiver_of}
-use Rattle.par_annotation_laws.specs.par_scope.Meaning.{name_receiver}
-use Rattle.par_annotation_laws.specs.par_scope.Meaning.{is_value, place_type, callee_type, arity}
-use Rattle.par_annotation_laws.specs.par_scope.Meaning.{class_of, field_in, when_it_is}
-use Rattle.par_annotation_laws.specs.par_scope.Meaning.{static_field}
-use Rattle.par_annotation_laws.specs.par_scope.Meaning.{selected}
-use Rattle.par_annotation_laws.specs.par_scope.Meaning.{callee_in, when_it_does, static_callee}
-use Rattle.par_annotation_laws.specs.par_scope.Meaning.{object_callee, called}
-use Rattle.par_annotation_laws.specs.par_type_rules.Exprs as types
-use Rattle.par_annotation_laws.specs.par_type_rules.Exprs.{count_fault, member_fault, is_known}
-use Rattle.par_annotation_laws.specs.par_type_rules.Methods.{home_of}
-use Rattle.par_annotation_laws.specs.Frames.{Frame, Var, var_at, var_named}
+use Rattle.par_type_rules.specs.par_scope.declared.locals.Slot.{Slot}
+use Rattle.par_type_rules.specs.par_scope.declared.members.Place.{Place}
+use Rattle.par_type_rules.specs.par_scope.declared.meaning.Receiver.{Receiver}
+use Rattle.par_type_rules.specs.par_scope.declared.meaning.Receiver.TheVariants as on
+use Rattle.par_type_rules.specs.par_scope.declared.meaning.Callee.{Callee}
+use Rattle.par_type_rules.specs.par_scope.declared.meaning.Callee.TheVariants as callee
+use Rattle.par_type_rules.specs.par_scope.Names.{names_of, number_in}
+use Rattle.par_type_rules.specs.par_scope.Locals.{slot_at, local_named}
+use Rattle.par_type_rules.specs.par_scope.Home.{Home, class_named, class_type}
+use Rattle.par_type_rules.specs.par_scope.Members.{field_at, channel_at, method_at, field_type}
+use Rattle.par_type_rules.specs.par_scope.Members.{field_is_static}
+use Rattle.par_type_rules.specs.par_scope.Members.{channel_type, method_type, method_is_static}
+use Rattle.par_type_rules.specs.par_scope.Members.{any_value}
+use Rattle.par_type_rules.specs.par_scope.Meaning.{type_of, type_of_name, name_type}
+use Rattle.par_type_rules.specs.par_scope.Meaning.{receiver_of}
+use Rattle.par_type_rules.specs.par_scope.Meaning.{name_receiver}
+use Rattle.par_type_rules.specs.par_scope.Meaning.{is_value, place_type, callee_type, arity}
+use Rattle.par_type_rules.specs.par_scope.Meaning.{class_of, field_in, when_it_is}
+use Rattle.par_type_rules.specs.par_scope.Meaning.{static_field}
+use Rattle.par_type_rules.specs.par_scope.Meaning.{selected}
+use Rattle.par_type_rules.specs.par_scope.Meaning.{callee_in, when_it_does, static_callee}
+use Rattle.par_type_rules.specs.par_scope.Meaning.{object_callee, called}
+use Rattle.par_type_rules.specs.Exprs as types
+use Rattle.par_type_rules.specs.Exprs.{count_fault, member_fault, is_known}
+use Rattle.par_type_rules.specs.Methods.{home_of}
+use Rattle.par_type_rules.specs.Frames.{Frame, Var, var_at, var_named}
 use Rattle.par_faults.specs.par_resolved.Resolved.{Resolved, resolved, class_info, class_infos}
 use Rattle.par_faults.specs.par_resolved.Resolved.{table_of}
-use Rattle.par_body_laws.specs.Names.{IsField}
+use Rattle.par_program_laws.specs.BodyNames.{IsField}
 use Rattle.par_typed_laws.proofs.Lists.{none_left, none_right}
 use Rattle.par_typed_laws.proofs.Ranges.{MayBe}
 use Rattle.par_typed_laws.proofs.Unbroken.{is_kept}

@@ -5,11 +5,11 @@ use Rattle.std.specs.Prelude.{if◌then◌else◌, count_by, codes}
 use Rattle.std.specs.List.{AllByRecursion, sum_by}
 use Rattle.std.proofs.lemmas.List.{length-map, length-append, length-take, length-drop}
 use Rattle.std.proofs.lemmas.List.Sums.{sum_by-cons}
-use Rattle.par_body_laws.specs.par_tree.declared.decl.FieldDecl.{FieldDecl}
-use Rattle.par_body_laws.specs.par_tree.Nodes.{method_nodes}
-use Rattle.par_body_laws.specs.par_tree.Plain.{Class, Method, Source}
-use Rattle.par_flow_laws.specs.par_typed.declared.table.ClassInfo.{ClassInfo}
-use Rattle.par_flow_laws.specs.par_typed.declared.table.MethodInfo.{MethodInfo}
+use Rattle.par_program_laws.specs.par_tree.declared.decl.FieldDecl.{FieldDecl}
+use Rattle.par_program_laws.specs.par_tree.Nodes.{method_nodes}
+use Rattle.par_program_laws.specs.par_tree.Plain.{Class, Method, Source}
+use Rattle.par_program_laws.specs.par_typed.declared.table.ClassInfo.{ClassInfo}
+use Rattle.par_program_laws.specs.par_typed.declared.table.MethodInfo.{MethodInfo}
 use Rattle.par_refusals.specs.First.{when}
 use Rattle.par_source_laws.specs.par_names.Declarations.{builtin, builtins, declared_classes}
 use Rattle.par_faults.specs.par_resolved.Resolved.{Resolved, resolved, field_infos, channel_info}

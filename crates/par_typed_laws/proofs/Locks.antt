@@ -8,7 +8,7 @@ use Rattle.std.specs.Prelude.{flat_map, slice_get, sum_by, slice_index_or}
 use Rattle.std.specs.List.{AllByRecursion, range_with_len}
 use Rattle.std.proofs.lemmas.List.{length-map, length-append}
 use Rattle.std.proofs.lemmas.List.Sums.{sum_by-cons}
-use Rattle.par_body_laws.specs.par_tree.declared.decl.LockDecl.{LockDecl}
+use Rattle.par_program_laws.specs.par_tree.declared.decl.LockDecl.{LockDecl}
 use Rattle.par_faults.specs.par_resolved.Numbers.{ground_count, firsts_from, place_in_family}
 use Rattle.par_faults.specs.par_resolved.Numbers.{choices}
 

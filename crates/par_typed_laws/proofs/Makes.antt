@@ -5,62 +5,64 @@ use Rattle.std.specs.Prelude.{slice_get, if◌then◌else◌}
 use Rattle.std.specs.Option.{is_some}
 use Rattle.std.specs.Str.{bytes_eq}
 use Rattle.par_index.specs.Texts.{has}
-use Rattle.par_body_laws.specs.par_tree.declared.ident.Ident.{Ident}
-use Rattle.par_body_laws.specs.par_tree.Plain.{Exp, Int, True, False, Null, This, New, Name, Field}
-use Rattle.par_body_laws.specs.par_tree.Plain.{Call, Neg}
-use Rattle.par_body_laws.specs.par_tree.Plain.{Not, Binary}
-use Rattle.par_body_laws.specs.par_tree.Plain.{Exps, NoExps, More, MayExp, Absent, Present, Class}
-use Rattle.par_body_laws.specs.par_tree.Plain.{Source, place}
-use Rattle.par_flow_laws.specs.par_typed.declared.ty.Ty.{Ty}
-use Rattle.par_flow_laws.specs.par_typed.declared.ty.Ty.TheVariants as ty
-use Rattle.par_flow_laws.specs.par_typed.declared.table.FieldInfo.{FieldInfo}
-use Rattle.par_flow_laws.specs.par_typed.declared.table.ChannelInfo.{ChannelInfo}
-use Rattle.par_flow_laws.specs.par_typed.declared.table.MethodInfo.{MethodInfo}
-use Rattle.par_flow_laws.specs.par_typed.declared.table.ClassInfo.{ClassInfo}
-use Rattle.par_flow_laws.specs.par_typed.declared.table.Table.{Table}
+use Rattle.par_program_laws.specs.par_tree.declared.ident.Ident.{Ident}
+use Rattle.par_program_laws.specs.par_tree.Plain.{Exp, Int, True, False, Null, This, New, Name}
+use Rattle.par_program_laws.specs.par_tree.Plain.{Field}
+use Rattle.par_program_laws.specs.par_tree.Plain.{Call, Neg}
+use Rattle.par_program_laws.specs.par_tree.Plain.{Not, Binary}
+use Rattle.par_program_laws.specs.par_tree.Plain.{Exps, NoExps, More, MayExp, Absent, Present}
+use Rattle.par_program_laws.specs.par_tree.Plain.{Class}
+use Rattle.par_program_laws.specs.par_tree.Plain.{Source, place}
+use Rattle.par_program_laws.specs.par_typed.declared.ty.Ty.{Ty}
+use Rattle.par_program_laws.specs.par_typed.declared.ty.Ty.TheVariants as ty
+use Rattle.par_program_laws.specs.par_typed.declared.table.FieldInfo.{FieldInfo}
+use Rattle.par_program_laws.specs.par_typed.declared.table.ChannelInfo.{ChannelInfo}
+use Rattle.par_program_laws.specs.par_typed.declared.table.MethodInfo.{MethodInfo}
+use Rattle.par_program_laws.specs.par_typed.declared.table.ClassInfo.{ClassInfo}
+use Rattle.par_program_laws.specs.par_typed.declared.table.Table.{Table}
 use Rattle.par_refusals.specs.declared.refusal.Refusal.{Refusal}
 use Rattle.par_refusals.specs.First.{when, broken}
-use Rattle.par_flow_laws.specs.par_typed.Plain as typed
-use Rattle.par_flow_laws.specs.par_typed.Plain.{Mark, TExp, MayTExp, TExps}
-use Rattle.par_flow_laws.specs.par_typed.Nodes.{may_nodes}
+use Rattle.par_program_laws.specs.par_typed.Plain as typed
+use Rattle.par_program_laws.specs.par_typed.Plain.{Mark, TExp, MayTExp, TExps}
+use Rattle.par_program_laws.specs.par_typed.Nodes.{may_nodes}
 use Rattle.par_source_laws.specs.par_names.Exprs as names
 use Rattle.par_source_laws.specs.par_names.Declarations.{classes}
 use Rattle.par_source_laws.specs.par_names.Members.{selected_named, callee_named}
 use Rattle.par_source_laws.specs.par_names.Policies.{View, class_fault}
 use Rattle.par_source_laws.specs.par_names.Program.{view_behind}
 use Rattle.par_source_laws.proofs.par_names.Lookups.{at, found}
-use Rattle.par_annotation_laws.specs.par_scope.declared.members.Place.{Place}
-use Rattle.par_annotation_laws.specs.par_scope.declared.meaning.Receiver.{Receiver}
-use Rattle.par_annotation_laws.specs.par_scope.declared.meaning.Receiver.TheVariants as on
-use Rattle.par_annotation_laws.specs.par_scope.declared.meaning.Callee.{Callee}
-use Rattle.par_annotation_laws.specs.par_scope.declared.meaning.Callee.TheVariants as callee
-use Rattle.par_annotation_laws.specs.par_scope.Names.{names_of}
-use Rattle.par_annotation_laws.specs.par_scope.Home.{Home, class_named}
-use Rattle.par_annotation_laws.specs.par_scope.Members.{field_at, channel_at, method_at}
-use Rattle.par_annotation_laws.specs.par_scope.Members.{field_is_static}
-use Rattle.par_annotation_laws.specs.par_scope.Members.{method_is_static, is_exception}
-use Rattle.par_flow_laws.specs.par_typed.Members.{class_is_exception}
-use Rattle.par_annotation_laws.specs.par_scope.Members.{any_value}
-use Rattle.par_annotation_laws.specs.par_scope.Meaning.{type_of, called_on, receiver_of, selected}
-use Rattle.par_annotation_laws.specs.par_scope.Meaning.{called}
-use Rattle.par_annotation_laws.specs.par_scope.Meaning.{arity}
-use Rattle.par_annotation_laws.specs.par_scope.Meaning.{param_at, sure}
-use Rattle.par_annotation_laws.specs.par_type_rules.Fits.{operand}
-use Rattle.par_annotation_laws.specs.par_type_rules.Exprs as types
-use Rattle.par_annotation_laws.specs.par_type_rules.Exprs.{misfit, count_fault, member_fault}
-use Rattle.par_annotation_laws.specs.par_type_rules.Exprs.{is_known}
-use Rattle.par_annotation_laws.specs.par_type_rules.Exprs.{unless_number}
-use Rattle.par_annotation_laws.specs.par_type_rules.Exprs.{is_number, exception_fault}
-use Rattle.par_annotation_laws.specs.par_type_rules.Methods.{home_of}
-use Rattle.par_annotation_laws.specs.Frames.{Frame, Var, var_named}
-use Rattle.par_annotation_laws.specs.Exprs.{numbered, own_this, own_field, name_typed, negation}
-use Rattle.par_annotation_laws.specs.Exprs.{number_of}
-use Rattle.par_annotation_laws.specs.Exprs.{selection, own_receiver, method_on}
-use Rattle.par_annotation_laws.specs.Exprs.{callee_on, first, by_way, through, call, typed_exp}
-use Rattle.par_annotation_laws.specs.Exprs.{typed_may}
-use Rattle.par_annotation_laws.specs.Exprs.{typed_args, mark_of}
+use Rattle.par_type_rules.specs.par_scope.declared.members.Place.{Place}
+use Rattle.par_type_rules.specs.par_scope.declared.meaning.Receiver.{Receiver}
+use Rattle.par_type_rules.specs.par_scope.declared.meaning.Receiver.TheVariants as on
+use Rattle.par_type_rules.specs.par_scope.declared.meaning.Callee.{Callee}
+use Rattle.par_type_rules.specs.par_scope.declared.meaning.Callee.TheVariants as callee
+use Rattle.par_type_rules.specs.par_scope.Names.{names_of}
+use Rattle.par_type_rules.specs.par_scope.Home.{Home, class_named}
+use Rattle.par_type_rules.specs.par_scope.Members.{field_at, channel_at, method_at}
+use Rattle.par_type_rules.specs.par_scope.Members.{field_is_static}
+use Rattle.par_type_rules.specs.par_scope.Members.{method_is_static, is_exception}
+use Rattle.par_program_laws.specs.par_typed.Members.{class_is_exception}
+use Rattle.par_type_rules.specs.par_scope.Members.{any_value}
+use Rattle.par_type_rules.specs.par_scope.Meaning.{type_of, called_on, receiver_of, selected}
+use Rattle.par_type_rules.specs.par_scope.Meaning.{called}
+use Rattle.par_type_rules.specs.par_scope.Meaning.{arity}
+use Rattle.par_type_rules.specs.par_scope.Meaning.{param_at, sure}
+use Rattle.par_type_rules.specs.Fits.{operand}
+use Rattle.par_type_rules.specs.Exprs as types
+use Rattle.par_type_rules.specs.Exprs.{misfit, count_fault, member_fault}
+use Rattle.par_type_rules.specs.Exprs.{is_known}
+use Rattle.par_type_rules.specs.Exprs.{unless_number}
+use Rattle.par_type_rules.specs.Exprs.{is_number, exception_fault}
+use Rattle.par_type_rules.specs.Methods.{home_of}
+use Rattle.par_type_rules.specs.Frames.{Frame, Var, var_named}
+use Rattle.par_type_rules.specs.TypedExprs.{numbered, own_this, own_field, name_typed, negation}
+use Rattle.par_type_rules.specs.TypedExprs.{number_of}
+use Rattle.par_type_rules.specs.TypedExprs.{selection, own_receiver, method_on}
+use Rattle.par_type_rules.specs.TypedExprs.{callee_on, first, by_way, through, call, typed_exp}
+use Rattle.par_type_rules.specs.TypedExprs.{typed_may}
+use Rattle.par_type_rules.specs.TypedExprs.{typed_args, mark_of}
 use Rattle.par_faults.specs.par_resolved.Resolved.{resolved, table_of}
-use Rattle.par_body_laws.specs.Makes.{IsOrdinary, ExpMakes, MayExpMakes, ExpsMake}
+use Rattle.par_program_laws.specs.Makes.{IsOrdinary, ExpMakes, MayExpMakes, ExpsMake}
 use Rattle.par_typed_laws.proofs.Lists.{none_left, none_right}
 use Rattle.par_typed_laws.proofs.Ranges.{MayBe}
 use Rattle.par_typed_laws.proofs.Unbroken.{is_kept}

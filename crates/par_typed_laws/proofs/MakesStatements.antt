@@ -2,26 +2,28 @@
 use Rattle.std.proofs.Common.{◌≡◌, ℕ, ◌+◌, Bool, true, false, not, List, [], ◌∷◌, ◌++◌, Option}
 use Rattle.std.proofs.Common.{Some, None, refl, sym, ap, subst, ◌∙◌, append_assoc, append-nil, map}
 use Rattle.std.proofs.lemmas.List.{length-append}
-use Rattle.par_body_laws.specs.par_tree.declared.decl.ParamDecl.{ParamDecl}
-use Rattle.par_body_laws.specs.par_tree.Plain.{Exp, Int, True, False, Null, This, New, Name, Field}
-use Rattle.par_body_laws.specs.par_tree.Plain.{Call, Neg}
-use Rattle.par_body_laws.specs.par_tree.Plain.{Not, Binary}
-use Rattle.par_body_laws.specs.par_tree.Plain.{MayExp, Absent, Present, Class, Source, place}
-use Rattle.par_body_laws.specs.par_tree.Plain.{Sta, Block, If, While, Try, Return, Break, Continue}
-use Rattle.par_body_laws.specs.par_tree.Plain.{Throw, Open}
-use Rattle.par_body_laws.specs.par_tree.Plain.{Close}
-use Rattle.par_body_laws.specs.par_tree.Plain.{Declare, Assign, Do, When, Braces, In, MayBraces}
-use Rattle.par_body_laws.specs.par_tree.Plain.{NoBraces}
-use Rattle.par_body_laws.specs.par_tree.Plain.{Else, NoElse, Otherwise, Stas, End, Then, Catches}
-use Rattle.par_body_laws.specs.par_tree.Plain.{NoCatch, Catch}
-use Rattle.par_body_laws.specs.par_tree.Plain.{On}
-use Rattle.par_body_laws.specs.par_tree.Plain as plain
-use Rattle.par_flow_laws.specs.par_typed.declared.ty.Ty.{Ty}
-use Rattle.par_flow_laws.specs.par_typed.declared.table.FieldInfo.{FieldInfo}
-use Rattle.par_flow_laws.specs.par_typed.declared.table.Table.{Table}
+use Rattle.par_program_laws.specs.par_tree.declared.decl.ParamDecl.{ParamDecl}
+use Rattle.par_program_laws.specs.par_tree.Plain.{Exp, Int, True, False, Null, This, New, Name}
+use Rattle.par_program_laws.specs.par_tree.Plain.{Field}
+use Rattle.par_program_laws.specs.par_tree.Plain.{Call, Neg}
+use Rattle.par_program_laws.specs.par_tree.Plain.{Not, Binary}
+use Rattle.par_program_laws.specs.par_tree.Plain.{MayExp, Absent, Present, Class, Source, place}
+use Rattle.par_program_laws.specs.par_tree.Plain.{Sta, Block, If, While, Try, Return, Break}
+use Rattle.par_program_laws.specs.par_tree.Plain.{Continue}
+use Rattle.par_program_laws.specs.par_tree.Plain.{Throw, Open}
+use Rattle.par_program_laws.specs.par_tree.Plain.{Close}
+use Rattle.par_program_laws.specs.par_tree.Plain.{Declare, Assign, Do, When, Braces, In, MayBraces}
+use Rattle.par_program_laws.specs.par_tree.Plain.{NoBraces}
+use Rattle.par_program_laws.specs.par_tree.Plain.{Else, NoElse, Otherwise, Stas, End, Then, Catches}
+use Rattle.par_program_laws.specs.par_tree.Plain.{NoCatch, Catch}
+use Rattle.par_program_laws.specs.par_tree.Plain.{On}
+use Rattle.par_program_laws.specs.par_tree.Plain as plain
+use Rattle.par_program_laws.specs.par_typed.declared.ty.Ty.{Ty}
+use Rattle.par_program_laws.specs.par_typed.declared.table.FieldInfo.{FieldInfo}
+use Rattle.par_program_laws.specs.par_typed.declared.table.Table.{Table}
 use Rattle.par_refusals.specs.declared.refusal.Refusal.{Refusal}
 use Rattle.par_refusals.specs.First.{when, broken}
-use Rattle.par_flow_laws.specs.par_typed.Plain.{TExp}
+use Rattle.par_program_laws.specs.par_typed.Plain.{TExp}
 use Rattle.par_source_laws.specs.par_names.Exprs as names
 use Rattle.par_source_laws.specs.par_names.Declarations.{doubles}
 use Rattle.par_source_laws.specs.par_names.Members.{selected_named}
@@ -30,39 +32,39 @@ use Rattle.par_source_laws.specs.par_names.Policies.{may_policy_faults}
 use Rattle.par_source_laws.specs.par_names.Policies.{type_fault}
 use Rattle.par_source_laws.specs.par_names.Program.{view_behind}
 use Rattle.par_source_laws.specs.par_names.Stmts as rules
-use Rattle.par_annotation_laws.specs.par_scope.declared.members.Place.{Place}
-use Rattle.par_annotation_laws.specs.par_scope.declared.locals.Slot.{Slot}
-use Rattle.par_annotation_laws.specs.par_scope.declared.meaning.Receiver as meaning
-use Rattle.par_annotation_laws.specs.par_scope.declared.meaning.Receiver.TheVariants as on
-use Rattle.par_annotation_laws.specs.par_scope.Names.{names_of}
-use Rattle.par_annotation_laws.specs.par_scope.Home.{Home}
-use Rattle.par_annotation_laws.specs.par_scope.Members.{field_at, field_is_static, any_value}
-use Rattle.par_annotation_laws.specs.par_scope.Meaning.{type_of, receiver_of, selected}
-use Rattle.par_body_laws.specs.par_completes.Completes.{completes}
-use Rattle.par_annotation_laws.specs.par_type_rules.Fits.{is_void}
-use Rattle.par_annotation_laws.specs.par_type_rules.Exprs.{expr_faults, misfit, value_faults}
-use Rattle.par_annotation_laws.specs.par_type_rules.Stmts as types
-use Rattle.par_annotation_laws.specs.par_type_rules.Stmts.{throw_fault, test_faults, slot_of}
-use Rattle.par_annotation_laws.specs.par_type_rules.Stmts.{target_slot}
-use Rattle.par_annotation_laws.specs.par_type_rules.Stmts.{result_faults}
-use Rattle.par_annotation_laws.specs.par_type_rules.Stmts.{stmt_faults, braces_faults}
-use Rattle.par_annotation_laws.specs.par_type_rules.Stmts.{may_braces_faults}
-use Rattle.par_annotation_laws.specs.par_type_rules.Stmts.{else_faults}
-use Rattle.par_annotation_laws.specs.par_type_rules.Stmts.{stmts_faults, catches_faults}
-use Rattle.par_annotation_laws.specs.par_type_rules.Stmts.{handler_faults}
-use Rattle.par_annotation_laws.specs.par_type_rules.Methods.{home_of, param_slot}
-use Rattle.par_annotation_laws.specs.Frames.{Frame, Var, var_named, with_local, further}
-use Rattle.par_annotation_laws.specs.Exprs.{own_this, typed_exp, typed_may}
-use Rattle.par_annotation_laws.specs.Stmts.{Written, may_policy, Target, Nowhere, ToLocal, ToStatic}
-use Rattle.par_annotation_laws.specs.Stmts.{ToField, target, target_nodes, assignment}
-use Rattle.par_annotation_laws.specs.Stmts.{own_target, name_target, selected_target, behind}
-use Rattle.par_annotation_laws.specs.par_scope.Own.{braces_locals, handler_locals}
-use Rattle.par_annotation_laws.specs.Stmts.{typed_sta, typed_braces, typed_may_braces, typed_else}
-use Rattle.par_annotation_laws.specs.Stmts.{typed_stas, typed_catches}
-use Rattle.par_annotation_laws.specs.Bodies.{with_params}
+use Rattle.par_type_rules.specs.par_scope.declared.members.Place.{Place}
+use Rattle.par_type_rules.specs.par_scope.declared.locals.Slot.{Slot}
+use Rattle.par_type_rules.specs.par_scope.declared.meaning.Receiver as meaning
+use Rattle.par_type_rules.specs.par_scope.declared.meaning.Receiver.TheVariants as on
+use Rattle.par_type_rules.specs.par_scope.Names.{names_of}
+use Rattle.par_type_rules.specs.par_scope.Home.{Home}
+use Rattle.par_type_rules.specs.par_scope.Members.{field_at, field_is_static, any_value}
+use Rattle.par_type_rules.specs.par_scope.Meaning.{type_of, receiver_of, selected}
+use Rattle.par_program_laws.specs.par_completes.Completes.{completes}
+use Rattle.par_type_rules.specs.Fits.{is_void}
+use Rattle.par_type_rules.specs.Exprs.{expr_faults, misfit, value_faults}
+use Rattle.par_type_rules.specs.Stmts as types
+use Rattle.par_type_rules.specs.Stmts.{throw_fault, test_faults, slot_of}
+use Rattle.par_type_rules.specs.Stmts.{target_slot}
+use Rattle.par_type_rules.specs.Stmts.{result_faults}
+use Rattle.par_type_rules.specs.Stmts.{stmt_faults, braces_faults}
+use Rattle.par_type_rules.specs.Stmts.{may_braces_faults}
+use Rattle.par_type_rules.specs.Stmts.{else_faults}
+use Rattle.par_type_rules.specs.Stmts.{stmts_faults, catches_faults}
+use Rattle.par_type_rules.specs.Stmts.{handler_faults}
+use Rattle.par_type_rules.specs.Methods.{home_of, param_slot}
+use Rattle.par_type_rules.specs.Frames.{Frame, Var, var_named, with_local, further}
+use Rattle.par_type_rules.specs.TypedExprs.{own_this, typed_exp, typed_may}
+use Rattle.par_type_rules.specs.TypedStmts.{Written, may_policy, Target, Nowhere, ToLocal, ToStatic}
+use Rattle.par_type_rules.specs.TypedStmts.{ToField, target, target_nodes, assignment}
+use Rattle.par_type_rules.specs.TypedStmts.{own_target, name_target, selected_target, behind}
+use Rattle.par_type_rules.specs.par_scope.Own.{braces_locals, handler_locals}
+use Rattle.par_type_rules.specs.TypedStmts.{typed_sta, typed_braces, typed_may_braces, typed_else}
+use Rattle.par_type_rules.specs.TypedStmts.{typed_stas, typed_catches}
+use Rattle.par_type_rules.specs.TypedBodies.{with_params}
 use Rattle.par_faults.specs.par_resolved.Resolved.{table_of}
-use Rattle.par_body_laws.specs.Makes.{ExpMakes, MayExpMakes, StaMakes, ElseMakes, StasMake}
-use Rattle.par_body_laws.specs.Makes.{CatchesMake}
+use Rattle.par_program_laws.specs.Makes.{ExpMakes, MayExpMakes, StaMakes, ElseMakes, StasMake}
+use Rattle.par_program_laws.specs.Makes.{CatchesMake}
 use Rattle.par_typed_laws.proofs.Lists.{none_left, none_right}
 use Rattle.par_typed_laws.proofs.Ranges.{MayBe}
 use Rattle.par_typed_laws.proofs.Members.{IsThere, PlaceOf, selected_is}

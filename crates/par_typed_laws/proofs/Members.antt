@@ -6,36 +6,36 @@ use Rattle.std.specs.Option.{option_map}
 use Rattle.std.specs.Str.{bytes_eq}
 use Rattle.std.proofs.lemmas.List.{length-map}
 use Rattle.std.proofs.lemmas.Option.{slice_get-map}
-use Rattle.par_flow_laws.specs.par_typed.declared.ty.Ty.{Ty}
-use Rattle.par_flow_laws.specs.par_typed.declared.ty.Ty.TheVariants as ty
-use Rattle.par_flow_laws.specs.par_typed.declared.table.FieldInfo.{FieldInfo}
-use Rattle.par_flow_laws.specs.par_typed.declared.table.ClassInfo.{ClassInfo}
-use Rattle.par_flow_laws.specs.par_typed.declared.table.Table.{Table}
-use Rattle.par_annotation_laws.specs.par_scope.declared.members.Place.{Place}
-use Rattle.par_annotation_laws.specs.par_scope.declared.meaning.Receiver.{Receiver}
-use Rattle.par_annotation_laws.specs.par_scope.declared.meaning.Receiver.TheVariants.{Own, Class}
-use Rattle.par_annotation_laws.specs.par_scope.declared.meaning.Receiver.TheVariants.{Object}
-use Rattle.par_annotation_laws.specs.par_scope.declared.meaning.Callee.{Callee}
-use Rattle.par_annotation_laws.specs.par_scope.declared.meaning.Callee.TheVariants.{Unknown}
-use Rattle.par_annotation_laws.specs.par_scope.declared.meaning.Callee.TheVariants.{Channel}
-use Rattle.par_annotation_laws.specs.par_scope.declared.meaning.Callee.TheVariants.{Method}
-use Rattle.par_annotation_laws.specs.par_scope.Names.{names_of, member_names, number_in, fields_in}
-use Rattle.par_annotation_laws.specs.par_scope.Names.{channels_in}
-use Rattle.par_annotation_laws.specs.par_scope.Names.{methods_in}
-use Rattle.par_annotation_laws.specs.par_scope.Home.{Home}
-use Rattle.par_annotation_laws.specs.par_scope.Members.{field_at}
-use Rattle.par_annotation_laws.specs.par_scope.Members.{channel_at, method_at, field_is_static}
-use Rattle.par_annotation_laws.specs.par_scope.Members.{method_is_static}
-use Rattle.par_annotation_laws.specs.par_scope.Meaning.{class_of, placed, field_in, when_it_is}
-use Rattle.par_annotation_laws.specs.par_scope.Meaning.{static_field}
-use Rattle.par_annotation_laws.specs.par_scope.Meaning.{object_field, selected, channel_or_method}
-use Rattle.par_annotation_laws.specs.par_scope.Meaning.{callee_in}
-use Rattle.par_annotation_laws.specs.par_scope.Meaning.{when_it_does, static_callee, object_callee}
-use Rattle.par_annotation_laws.specs.par_scope.Meaning.{called}
+use Rattle.par_program_laws.specs.par_typed.declared.ty.Ty.{Ty}
+use Rattle.par_program_laws.specs.par_typed.declared.ty.Ty.TheVariants as ty
+use Rattle.par_program_laws.specs.par_typed.declared.table.FieldInfo.{FieldInfo}
+use Rattle.par_program_laws.specs.par_typed.declared.table.ClassInfo.{ClassInfo}
+use Rattle.par_program_laws.specs.par_typed.declared.table.Table.{Table}
+use Rattle.par_type_rules.specs.par_scope.declared.members.Place.{Place}
+use Rattle.par_type_rules.specs.par_scope.declared.meaning.Receiver.{Receiver}
+use Rattle.par_type_rules.specs.par_scope.declared.meaning.Receiver.TheVariants.{Own, Class}
+use Rattle.par_type_rules.specs.par_scope.declared.meaning.Receiver.TheVariants.{Object}
+use Rattle.par_type_rules.specs.par_scope.declared.meaning.Callee.{Callee}
+use Rattle.par_type_rules.specs.par_scope.declared.meaning.Callee.TheVariants.{Unknown}
+use Rattle.par_type_rules.specs.par_scope.declared.meaning.Callee.TheVariants.{Channel}
+use Rattle.par_type_rules.specs.par_scope.declared.meaning.Callee.TheVariants.{Method}
+use Rattle.par_type_rules.specs.par_scope.Names.{names_of, member_names, number_in, fields_in}
+use Rattle.par_type_rules.specs.par_scope.Names.{channels_in}
+use Rattle.par_type_rules.specs.par_scope.Names.{methods_in}
+use Rattle.par_type_rules.specs.par_scope.Home.{Home}
+use Rattle.par_type_rules.specs.par_scope.Members.{field_at}
+use Rattle.par_type_rules.specs.par_scope.Members.{channel_at, method_at, field_is_static}
+use Rattle.par_type_rules.specs.par_scope.Members.{method_is_static}
+use Rattle.par_type_rules.specs.par_scope.Meaning.{class_of, placed, field_in, when_it_is}
+use Rattle.par_type_rules.specs.par_scope.Meaning.{static_field}
+use Rattle.par_type_rules.specs.par_scope.Meaning.{object_field, selected, channel_or_method}
+use Rattle.par_type_rules.specs.par_scope.Meaning.{callee_in}
+use Rattle.par_type_rules.specs.par_scope.Meaning.{when_it_does, static_callee, object_callee}
+use Rattle.par_type_rules.specs.par_scope.Meaning.{called}
 use Rattle.par_index.proofs.Places.{position-within}
-use Rattle.par_annotation_laws.specs.par_type_rules.Methods.{home_of}
-use Rattle.par_flow_laws.specs.par_typed.Members as m
-use Rattle.par_body_laws.specs.Names.{IsField}
+use Rattle.par_type_rules.specs.Methods.{home_of}
+use Rattle.par_program_laws.specs.par_typed.Members as m
+use Rattle.par_program_laws.specs.BodyNames.{IsField}
 use Rattle.par_typed_laws.proofs.Ranges.{MayBe}
 
 -- ---- there is something

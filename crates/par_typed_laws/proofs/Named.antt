@@ -6,56 +6,57 @@ use Rattle.std.proofs.lemmas.Bool.Decides.{nat_tests}
 use Rattle.std.specs.Str.{bytes_eq}
 use Rattle.std.proofs.lemmas.List.{length-map}
 use Rattle.par_index.proofs.Places.{position-within}
-use Rattle.par_annotation_laws.specs.par_type_rules.Fits.{operand}
-use Rattle.par_body_laws.specs.par_tree.Plain.{Exp, Int, True, False, Null, This, New, Name, Field}
-use Rattle.par_body_laws.specs.par_tree.Plain.{Call, Neg}
-use Rattle.par_body_laws.specs.par_tree.Plain.{Not, Binary}
-use Rattle.par_body_laws.specs.par_tree.Plain.{Exps, NoExps, More, MayExp, Absent, Present}
-use Rattle.par_flow_laws.specs.par_typed.declared.ty.Ty.{Ty}
-use Rattle.par_flow_laws.specs.par_typed.declared.ty.Ty.TheVariants as ty
-use Rattle.par_flow_laws.specs.par_typed.declared.table.FieldInfo.{FieldInfo}
-use Rattle.par_flow_laws.specs.par_typed.declared.table.ChannelInfo.{ChannelInfo}
-use Rattle.par_flow_laws.specs.par_typed.declared.table.MethodInfo.{MethodInfo}
-use Rattle.par_flow_laws.specs.par_typed.declared.table.Table.{Table}
-use Rattle.par_flow_laws.specs.par_typed.Plain as typed
-use Rattle.par_flow_laws.specs.par_typed.Plain.{Mark, TExp, MayTExp, TExps, mark}
-use Rattle.par_flow_laws.specs.par_typed.Nodes.{nodes, may_nodes}
+use Rattle.par_type_rules.specs.Fits.{operand}
+use Rattle.par_program_laws.specs.par_tree.Plain.{Exp, Int, True, False, Null, This, New, Name}
+use Rattle.par_program_laws.specs.par_tree.Plain.{Field}
+use Rattle.par_program_laws.specs.par_tree.Plain.{Call, Neg}
+use Rattle.par_program_laws.specs.par_tree.Plain.{Not, Binary}
+use Rattle.par_program_laws.specs.par_tree.Plain.{Exps, NoExps, More, MayExp, Absent, Present}
+use Rattle.par_program_laws.specs.par_typed.declared.ty.Ty.{Ty}
+use Rattle.par_program_laws.specs.par_typed.declared.ty.Ty.TheVariants as ty
+use Rattle.par_program_laws.specs.par_typed.declared.table.FieldInfo.{FieldInfo}
+use Rattle.par_program_laws.specs.par_typed.declared.table.ChannelInfo.{ChannelInfo}
+use Rattle.par_program_laws.specs.par_typed.declared.table.MethodInfo.{MethodInfo}
+use Rattle.par_program_laws.specs.par_typed.declared.table.Table.{Table}
+use Rattle.par_program_laws.specs.par_typed.Plain as typed
+use Rattle.par_program_laws.specs.par_typed.Plain.{Mark, TExp, MayTExp, TExps, mark}
+use Rattle.par_program_laws.specs.par_typed.Nodes.{nodes, may_nodes}
 use Rattle.par_refusals.specs.declared.refusal.Refusal.{Refusal}
-use Rattle.par_annotation_laws.specs.par_scope.declared.members.Place.{Place}
-use Rattle.par_annotation_laws.specs.par_scope.declared.meaning.Receiver.{Receiver}
-use Rattle.par_annotation_laws.specs.par_scope.declared.meaning.Receiver.TheVariants.{Own, Class}
-use Rattle.par_annotation_laws.specs.par_scope.declared.meaning.Receiver.TheVariants.{Object}
-use Rattle.par_annotation_laws.specs.par_scope.declared.meaning.Callee.{Callee}
-use Rattle.par_annotation_laws.specs.par_scope.declared.meaning.Callee.TheVariants.{Unknown}
-use Rattle.par_annotation_laws.specs.par_scope.declared.meaning.Callee.TheVariants.{Channel}
-use Rattle.par_annotation_laws.specs.par_scope.declared.meaning.Callee.TheVariants.{Method}
-use Rattle.par_annotation_laws.specs.par_scope.Names.{names_of}
-use Rattle.par_annotation_laws.specs.par_scope.Locals.{Scope}
-use Rattle.par_annotation_laws.specs.par_scope.Home.{Home, class_named}
-use Rattle.par_annotation_laws.specs.par_scope.Members.{field_at, channel_at, method_at}
-use Rattle.par_annotation_laws.specs.par_scope.Members.{field_is_static}
-use Rattle.par_annotation_laws.specs.par_scope.Members.{method_is_static, method_arity, any_value}
-use Rattle.par_annotation_laws.specs.par_scope.Meaning.{selected, called, type_of, called_on}
-use Rattle.par_annotation_laws.specs.par_scope.Meaning.{receiver_of}
-use Rattle.par_annotation_laws.specs.par_scope.Meaning.{name_receiver, is_value, sure, arity}
-use Rattle.par_annotation_laws.specs.par_scope.Meaning.{param_at}
-use Rattle.par_annotation_laws.specs.par_type_rules.Exprs as types
-use Rattle.par_annotation_laws.specs.par_type_rules.Exprs.{expr_faults, receiver_faults}
-use Rattle.par_annotation_laws.specs.par_type_rules.Exprs.{args_faults, misfit}
-use Rattle.par_annotation_laws.specs.par_type_rules.Exprs.{count_fault}
-use Rattle.par_annotation_laws.specs.par_type_rules.Exprs.{member_fault, is_known, unless_number}
-use Rattle.par_annotation_laws.specs.par_type_rules.Exprs.{is_number}
-use Rattle.par_annotation_laws.specs.par_type_rules.Methods.{home_of}
-use Rattle.par_annotation_laws.specs.Frames.{Frame, Var, var_named}
-use Rattle.par_annotation_laws.specs.Exprs.{known, numbered, own_this, own_field, name_typed}
-use Rattle.par_annotation_laws.specs.Exprs.{negation}
-use Rattle.par_annotation_laws.specs.Exprs.{number_of, selection, own_receiver, method_on}
-use Rattle.par_annotation_laws.specs.Exprs.{callee_on, first, by_way, through, call, typed_exp}
-use Rattle.par_annotation_laws.specs.Exprs.{typed_may}
-use Rattle.par_annotation_laws.specs.Exprs.{typed_args, mark_of}
-use Rattle.par_flow_laws.specs.par_typed.Members.{IsClass}
-use Rattle.par_body_laws.specs.Names.{IsField, IsChannel, IsCalled, IsObject, MayBeObject}
-use Rattle.par_body_laws.specs.Names.{is_present, how_many, ExpNames, MayExpNames, ExpsName}
+use Rattle.par_type_rules.specs.par_scope.declared.members.Place.{Place}
+use Rattle.par_type_rules.specs.par_scope.declared.meaning.Receiver.{Receiver}
+use Rattle.par_type_rules.specs.par_scope.declared.meaning.Receiver.TheVariants.{Own, Class}
+use Rattle.par_type_rules.specs.par_scope.declared.meaning.Receiver.TheVariants.{Object}
+use Rattle.par_type_rules.specs.par_scope.declared.meaning.Callee.{Callee}
+use Rattle.par_type_rules.specs.par_scope.declared.meaning.Callee.TheVariants.{Unknown}
+use Rattle.par_type_rules.specs.par_scope.declared.meaning.Callee.TheVariants.{Channel}
+use Rattle.par_type_rules.specs.par_scope.declared.meaning.Callee.TheVariants.{Method}
+use Rattle.par_type_rules.specs.par_scope.Names.{names_of}
+use Rattle.par_type_rules.specs.par_scope.Locals.{Scope}
+use Rattle.par_type_rules.specs.par_scope.Home.{Home, class_named}
+use Rattle.par_type_rules.specs.par_scope.Members.{field_at, channel_at, method_at}
+use Rattle.par_type_rules.specs.par_scope.Members.{field_is_static}
+use Rattle.par_type_rules.specs.par_scope.Members.{method_is_static, method_arity, any_value}
+use Rattle.par_type_rules.specs.par_scope.Meaning.{selected, called, type_of, called_on}
+use Rattle.par_type_rules.specs.par_scope.Meaning.{receiver_of}
+use Rattle.par_type_rules.specs.par_scope.Meaning.{name_receiver, is_value, sure, arity}
+use Rattle.par_type_rules.specs.par_scope.Meaning.{param_at}
+use Rattle.par_type_rules.specs.Exprs as types
+use Rattle.par_type_rules.specs.Exprs.{expr_faults, receiver_faults}
+use Rattle.par_type_rules.specs.Exprs.{args_faults, misfit}
+use Rattle.par_type_rules.specs.Exprs.{count_fault}
+use Rattle.par_type_rules.specs.Exprs.{member_fault, is_known, unless_number}
+use Rattle.par_type_rules.specs.Exprs.{is_number}
+use Rattle.par_type_rules.specs.Methods.{home_of}
+use Rattle.par_type_rules.specs.Frames.{Frame, Var, var_named}
+use Rattle.par_type_rules.specs.TypedExprs.{known, numbered, own_this, own_field, name_typed}
+use Rattle.par_type_rules.specs.TypedExprs.{negation}
+use Rattle.par_type_rules.specs.TypedExprs.{number_of, selection, own_receiver, method_on}
+use Rattle.par_type_rules.specs.TypedExprs.{callee_on, first, by_way, through, call, typed_exp}
+use Rattle.par_type_rules.specs.TypedExprs.{typed_may}
+use Rattle.par_type_rules.specs.TypedExprs.{typed_args, mark_of}
+use Rattle.par_program_laws.specs.par_typed.Members.{IsClass}
+use Rattle.par_program_laws.specs.BodyNames.{IsField, IsChannel, IsCalled, IsObject, MayBeObject}
+use Rattle.par_program_laws.specs.BodyNames.{is_present, how_many, ExpNames, MayExpNames, ExpsName}
 use Rattle.par_typed_laws.proofs.Lists.{none_left, none_right}
 use Rattle.par_typed_laws.proofs.Ranges.{MayBe}
 use Rattle.par_typed_laws.proofs.Unbroken.{is_kept}

@@ -3,74 +3,76 @@ use Rattle.std.proofs.Common.{◌≡◌, ℕ, ◌+◌, ◌<◌, Bool, true, fals
 use Rattle.std.proofs.Common.{Option, Some, None, refl, ap, ◌∙◌}
 use Rattle.std.specs.Prelude.{slice_get}
 use Rattle.std.specs.List.{AllByRecursion}
-use Rattle.par_body_laws.specs.par_tree.declared.ident.Ident.{Ident}
-use Rattle.par_body_laws.specs.par_tree.declared.decl.ParamDecl.{ParamDecl}
-use Rattle.par_body_laws.specs.par_tree.Plain.{Exp, Int, True, False, Null, This, New, Name, Field}
-use Rattle.par_body_laws.specs.par_tree.Plain.{Call, Neg}
-use Rattle.par_body_laws.specs.par_tree.Plain.{Not, Binary}
-use Rattle.par_body_laws.specs.par_tree.Plain.{MayExp, Absent, Present, Method, Class}
-use Rattle.par_body_laws.specs.par_tree.Plain.{Declaration}
-use Rattle.par_body_laws.specs.par_tree.Plain.{Sta, Block, If, While, Try, Return, Break, Continue}
-use Rattle.par_body_laws.specs.par_tree.Plain.{Throw, Open}
-use Rattle.par_body_laws.specs.par_tree.Plain.{Close}
-use Rattle.par_body_laws.specs.par_tree.Plain.{Declare, Assign, Do, When, Braces, In, MayBraces}
-use Rattle.par_body_laws.specs.par_tree.Plain.{NoBraces}
-use Rattle.par_body_laws.specs.par_tree.Plain.{Else, NoElse, Otherwise, Stas, End, Then, Catches}
-use Rattle.par_body_laws.specs.par_tree.Plain.{NoCatch, Catch}
-use Rattle.par_body_laws.specs.par_tree.Plain.{On}
-use Rattle.par_body_laws.specs.par_tree.Plain as plain
-use Rattle.par_flow_laws.specs.par_typed.declared.ty.Ty.{Ty}
-use Rattle.par_flow_laws.specs.par_typed.declared.ty.Ty.TheVariants as ty
-use Rattle.par_flow_laws.specs.par_typed.declared.table.FieldInfo.{FieldInfo}
-use Rattle.par_flow_laws.specs.par_typed.declared.table.ClassInfo.{ClassInfo}
-use Rattle.par_flow_laws.specs.par_typed.declared.table.Table.{Table}
+use Rattle.par_program_laws.specs.par_tree.declared.ident.Ident.{Ident}
+use Rattle.par_program_laws.specs.par_tree.declared.decl.ParamDecl.{ParamDecl}
+use Rattle.par_program_laws.specs.par_tree.Plain.{Exp, Int, True, False, Null, This, New, Name}
+use Rattle.par_program_laws.specs.par_tree.Plain.{Field}
+use Rattle.par_program_laws.specs.par_tree.Plain.{Call, Neg}
+use Rattle.par_program_laws.specs.par_tree.Plain.{Not, Binary}
+use Rattle.par_program_laws.specs.par_tree.Plain.{MayExp, Absent, Present, Method, Class}
+use Rattle.par_program_laws.specs.par_tree.Plain.{Declaration}
+use Rattle.par_program_laws.specs.par_tree.Plain.{Sta, Block, If, While, Try, Return, Break}
+use Rattle.par_program_laws.specs.par_tree.Plain.{Continue}
+use Rattle.par_program_laws.specs.par_tree.Plain.{Throw, Open}
+use Rattle.par_program_laws.specs.par_tree.Plain.{Close}
+use Rattle.par_program_laws.specs.par_tree.Plain.{Declare, Assign, Do, When, Braces, In, MayBraces}
+use Rattle.par_program_laws.specs.par_tree.Plain.{NoBraces}
+use Rattle.par_program_laws.specs.par_tree.Plain.{Else, NoElse, Otherwise, Stas, End, Then, Catches}
+use Rattle.par_program_laws.specs.par_tree.Plain.{NoCatch, Catch}
+use Rattle.par_program_laws.specs.par_tree.Plain.{On}
+use Rattle.par_program_laws.specs.par_tree.Plain as plain
+use Rattle.par_program_laws.specs.par_typed.declared.ty.Ty.{Ty}
+use Rattle.par_program_laws.specs.par_typed.declared.ty.Ty.TheVariants as ty
+use Rattle.par_program_laws.specs.par_typed.declared.table.FieldInfo.{FieldInfo}
+use Rattle.par_program_laws.specs.par_typed.declared.table.ClassInfo.{ClassInfo}
+use Rattle.par_program_laws.specs.par_typed.declared.table.Table.{Table}
 use Rattle.par_refusals.specs.declared.refusal.Refusal.{Refusal}
-use Rattle.par_flow_laws.specs.par_typed.Plain.{TExp, Body, mark}
-use Rattle.par_annotation_laws.specs.par_scope.declared.members.Place.{Place}
-use Rattle.par_annotation_laws.specs.par_scope.declared.meaning.Receiver as meaning
-use Rattle.par_annotation_laws.specs.par_scope.declared.meaning.Receiver.TheVariants as receiver
-use Rattle.par_annotation_laws.specs.par_scope.Names.{names_of}
-use Rattle.par_annotation_laws.specs.par_scope.Locals.{Scope, no_locals}
-use Rattle.par_annotation_laws.specs.par_scope.Home.{Home, class_named, result_written}
-use Rattle.par_annotation_laws.specs.par_scope.Members.{field_at, field_is_static, is_exception}
-use Rattle.par_flow_laws.specs.par_typed.Members.{class_is_exception}
-use Rattle.par_annotation_laws.specs.par_scope.Members.{any_value}
-use Rattle.par_annotation_laws.specs.par_scope.Meaning.{selected, type_of, receiver_of}
-use Rattle.par_body_laws.specs.par_completes.Completes.{completes}
+use Rattle.par_program_laws.specs.par_typed.Plain.{TExp, Body, mark}
+use Rattle.par_type_rules.specs.par_scope.declared.members.Place.{Place}
+use Rattle.par_type_rules.specs.par_scope.declared.meaning.Receiver as meaning
+use Rattle.par_type_rules.specs.par_scope.declared.meaning.Receiver.TheVariants as receiver
+use Rattle.par_type_rules.specs.par_scope.Names.{names_of}
+use Rattle.par_type_rules.specs.par_scope.Locals.{Scope, no_locals}
+use Rattle.par_type_rules.specs.par_scope.Home.{Home, class_named, result_written}
+use Rattle.par_type_rules.specs.par_scope.Members.{field_at, field_is_static, is_exception}
+use Rattle.par_program_laws.specs.par_typed.Members.{class_is_exception}
+use Rattle.par_type_rules.specs.par_scope.Members.{any_value}
+use Rattle.par_type_rules.specs.par_scope.Meaning.{selected, type_of, receiver_of}
+use Rattle.par_program_laws.specs.par_completes.Completes.{completes}
 use Rattle.par_refusals.specs.First.{when, broken}
-use Rattle.par_annotation_laws.specs.par_type_rules.Fits.{is_void}
-use Rattle.par_annotation_laws.specs.par_type_rules.Exprs.{expr_faults, misfit, value_faults}
-use Rattle.par_annotation_laws.specs.par_type_rules.Stmts as types
-use Rattle.par_annotation_laws.specs.par_type_rules.Stmts.{throw_fault, test_faults, slot_of}
-use Rattle.par_annotation_laws.specs.par_type_rules.Stmts.{target_slot}
-use Rattle.par_annotation_laws.specs.par_type_rules.Stmts.{result_faults}
-use Rattle.par_annotation_laws.specs.par_type_rules.Stmts.{declares, stmt_faults, braces_faults}
-use Rattle.par_annotation_laws.specs.par_type_rules.Stmts.{may_braces_faults}
-use Rattle.par_annotation_laws.specs.par_type_rules.Stmts.{else_faults, stmts_faults}
-use Rattle.par_annotation_laws.specs.par_type_rules.Stmts.{catches_faults}
-use Rattle.par_annotation_laws.specs.par_type_rules.Stmts.{handler_faults}
-use Rattle.par_annotation_laws.specs.par_type_rules.Methods as types_methods
-use Rattle.par_annotation_laws.specs.par_type_rules.Methods.{home_of}
-use Rattle.par_annotation_laws.specs.par_type_rules.Methods.{fields_faults, end_fault}
-use Rattle.par_annotation_laws.specs.par_type_rules.Methods.{method_faults}
-use Rattle.par_annotation_laws.specs.par_type_rules.Methods.{methods_faults, class_faults}
-use Rattle.par_annotation_laws.specs.par_type_rules.Methods.{param_slot}
-use Rattle.par_annotation_laws.specs.par_type_rules.Program.{declaration_faults}
-use Rattle.par_annotation_laws.specs.par_type_rules.Program.{declarations_faults}
-use Rattle.par_annotation_laws.specs.Frames.{Frame, Var, var_named, with_local, further}
-use Rattle.par_annotation_laws.specs.Exprs.{known, numbered, own_this, typed_exp, typed_may}
-use Rattle.par_annotation_laws.specs.Stmts.{Written, Target, Nowhere, ToLocal, ToStatic, ToField}
-use Rattle.par_annotation_laws.specs.Stmts.{target}
-use Rattle.par_annotation_laws.specs.Stmts.{target_nodes, assignment}
-use Rattle.par_annotation_laws.specs.Stmts.{own_target, name_target, selected_target, behind}
-use Rattle.par_annotation_laws.specs.par_scope.Own.{braces_locals, handler_locals}
-use Rattle.par_annotation_laws.specs.Stmts.{typed_sta, typed_braces, typed_may_braces, typed_else}
-use Rattle.par_annotation_laws.specs.Stmts.{typed_stas, typed_catches}
-use Rattle.par_annotation_laws.specs.Bodies.{no_frame, with_params, typed_method, typed_methods}
-use Rattle.par_annotation_laws.specs.Bodies.{typed_class, typed_declaration, typed_declarations}
-use Rattle.par_flow_laws.specs.par_typed.Members as m
-use Rattle.par_body_laws.specs.Names.{IsField, IsException, IsObject, ExpNames, MayExpNames}
-use Rattle.par_body_laws.specs.Names.{StaNames, ElseNames, StasName, CatchesName}
+use Rattle.par_type_rules.specs.Fits.{is_void}
+use Rattle.par_type_rules.specs.Exprs.{expr_faults, misfit, value_faults}
+use Rattle.par_type_rules.specs.Stmts as types
+use Rattle.par_type_rules.specs.Stmts.{throw_fault, test_faults, slot_of}
+use Rattle.par_type_rules.specs.Stmts.{target_slot}
+use Rattle.par_type_rules.specs.Stmts.{result_faults}
+use Rattle.par_type_rules.specs.Stmts.{declares, stmt_faults, braces_faults}
+use Rattle.par_type_rules.specs.Stmts.{may_braces_faults}
+use Rattle.par_type_rules.specs.Stmts.{else_faults, stmts_faults}
+use Rattle.par_type_rules.specs.Stmts.{catches_faults}
+use Rattle.par_type_rules.specs.Stmts.{handler_faults}
+use Rattle.par_type_rules.specs.Methods as types_methods
+use Rattle.par_type_rules.specs.Methods.{home_of}
+use Rattle.par_type_rules.specs.Methods.{fields_faults, end_fault}
+use Rattle.par_type_rules.specs.Methods.{method_faults}
+use Rattle.par_type_rules.specs.Methods.{methods_faults, class_faults}
+use Rattle.par_type_rules.specs.Methods.{param_slot}
+use Rattle.par_type_rules.specs.Program.{declaration_faults}
+use Rattle.par_type_rules.specs.Program.{declarations_faults}
+use Rattle.par_type_rules.specs.Frames.{Frame, Var, var_named, with_local, further}
+use Rattle.par_type_rules.specs.TypedExprs.{known, numbered, own_this, typed_exp, typed_may}
+use Rattle.par_type_rules.specs.TypedStmts.{Written, Target, Nowhere, ToLocal, ToStatic, ToField}
+use Rattle.par_type_rules.specs.TypedStmts.{target}
+use Rattle.par_type_rules.specs.TypedStmts.{target_nodes, assignment}
+use Rattle.par_type_rules.specs.TypedStmts.{own_target, name_target, selected_target, behind}
+use Rattle.par_type_rules.specs.par_scope.Own.{braces_locals, handler_locals}
+use Rattle.par_type_rules.specs.TypedStmts.{typed_sta, typed_braces, typed_may_braces, typed_else}
+use Rattle.par_type_rules.specs.TypedStmts.{typed_stas, typed_catches}
+use Rattle.par_type_rules.specs.TypedBodies.{no_frame, with_params, typed_method, typed_methods}
+use Rattle.par_type_rules.specs.TypedBodies.{typed_class, typed_declaration, typed_declarations}
+use Rattle.par_program_laws.specs.par_typed.Members as m
+use Rattle.par_program_laws.specs.BodyNames.{IsField, IsException, IsObject, ExpNames, MayExpNames}
+use Rattle.par_program_laws.specs.BodyNames.{StaNames, ElseNames, StasName, CatchesName}
 use Rattle.par_typed_laws.proofs.Lists.{none_left, none_right, of_both}
 use Rattle.par_typed_laws.proofs.Ranges.{MayBe}
 use Rattle.par_typed_laws.proofs.Unbroken.{is_kept}

@@ -2,30 +2,30 @@
 use Rattle.std.proofs.Common.{◌≡◌, ℕ, zero, suc, ◌+◌, Bool, true, false, List, [], ◌∷◌, ◌++◌}
 use Rattle.std.proofs.Common.{length, refl, sym, ap, subst, ◌∙◌, arith}
 use Rattle.std.proofs.lemmas.List.{length-append}
-use Rattle.par_flow_laws.specs.par_lexer.declared.operator.BinOp.{BinOp}
-use Rattle.par_flow_laws.specs.par_lexer.declared.operator.BinOp.TheVariants as op
-use Rattle.par_flow_laws.specs.par_typed.Plain as plain
-use Rattle.par_flow_laws.specs.par_typed.Plain.{TExp, MayTExp, TExps, TSta, MayTSta, TStas}
-use Rattle.par_flow_laws.specs.par_typed.Plain.{TCatches}
-use Rattle.par_flow_laws.specs.par_typed.Plain.{mark}
-use Rattle.par_flow_laws.specs.par_typed.Nodes.{nodes, may_nodes, args_nodes, stmt_nodes}
-use Rattle.par_flow_laws.specs.par_typed.Nodes.{else_nodes}
-use Rattle.par_flow_laws.specs.par_typed.Nodes.{all_nodes}
-use Rattle.par_flow_laws.specs.par_typed.Nodes.{catch_nodes}
-use Rattle.par_annotation_laws.specs.Points.{count_from, points, may_points, args_points}
-use Rattle.par_annotation_laws.specs.Points.{stmt_points}
-use Rattle.par_annotation_laws.specs.Points.{else_points, all_points, catch_points}
-use Rattle.par_annotation_laws.proofs.Points.{count_more, count_append}
-use Rattle.par_flow_laws.specs.Kinds as kind
-use Rattle.par_flow_laws.specs.Kinds.{Kind, Absorber, Next}
-use Rattle.par_flow_laws.specs.Declares.{Declares, Method, Thrown}
-use Rattle.par_flow_laws.specs.Rules.{From, Entry, After, Worth, Given, Node, node, Rules, Done}
-use Rattle.par_flow_laws.specs.Rules.{Part}
-use Rattle.par_flow_laws.specs.Rules.{Test, Heads, Leaves, Worths, goes_on}
-use Rattle.par_flow_laws.specs.Body.{exp, args, sta, stas, catches, if_not, divides, skips}
-use Rattle.par_flow_laws.specs.Body.{is_forever}
-use Rattle.par_flow_laws.specs.Body.{thrown, called, past, args_past, args_tested}
-use Rattle.par_flow_laws.specs.Numbered.{next, next_by, IsNumbered, AreNumbered}
+use Rattle.par_program_laws.specs.par_lexer.declared.operator.BinOp.{BinOp}
+use Rattle.par_program_laws.specs.par_lexer.declared.operator.BinOp.TheVariants as op
+use Rattle.par_program_laws.specs.par_typed.Plain as plain
+use Rattle.par_program_laws.specs.par_typed.Plain.{TExp, MayTExp, TExps, TSta, MayTSta, TStas}
+use Rattle.par_program_laws.specs.par_typed.Plain.{TCatches}
+use Rattle.par_program_laws.specs.par_typed.Plain.{mark}
+use Rattle.par_program_laws.specs.par_typed.Nodes.{nodes, may_nodes, args_nodes, stmt_nodes}
+use Rattle.par_program_laws.specs.par_typed.Nodes.{else_nodes}
+use Rattle.par_program_laws.specs.par_typed.Nodes.{all_nodes}
+use Rattle.par_program_laws.specs.par_typed.Nodes.{catch_nodes}
+use Rattle.par_type_rules.specs.Points.{count_from, points, may_points, args_points}
+use Rattle.par_type_rules.specs.Points.{stmt_points}
+use Rattle.par_type_rules.specs.Points.{else_points, all_points, catch_points}
+use Rattle.par_type_rules.proofs.Points.{count_more, count_append}
+use Rattle.par_program_laws.specs.Kinds as kind
+use Rattle.par_program_laws.specs.Kinds.{Kind, Absorber, Next}
+use Rattle.par_program_laws.specs.Declares.{Declares, Method, Thrown}
+use Rattle.par_program_laws.specs.Rules.{From, Entry, After, Worth, Given, Node, node, Rules, Done}
+use Rattle.par_program_laws.specs.Rules.{Part}
+use Rattle.par_program_laws.specs.Rules.{Test, Heads, Leaves, Worths, goes_on}
+use Rattle.par_program_laws.specs.Body.{exp, args, sta, stas, catches, if_not, divides, skips}
+use Rattle.par_program_laws.specs.Body.{is_forever}
+use Rattle.par_program_laws.specs.Body.{thrown, called, past, args_past, args_tested}
+use Rattle.par_program_laws.specs.Numbered.{next, next_by, IsNumbered, AreNumbered}
 
 -- ---- so many points
 

@@ -3,32 +3,32 @@ use Rattle.std.proofs.Common.{◌≡◌, ℕ, false, List, [], ◌∷◌, ◌++�
 use Rattle.std.proofs.Common.{subst, ◌∙◌, append_assoc, map}
 use Rattle.std.specs.Prelude.{flat_map, slice_get}
 use Rattle.std.specs.List.{AllByRecursion}
-use Rattle.par_body_laws.specs.par_tree.Plain.{Class, Method, Declaration, Source}
-use Rattle.par_body_laws.specs.par_tree.Plain as plain
-use Rattle.par_flow_laws.specs.par_typed.declared.table.Table.{Table}
+use Rattle.par_program_laws.specs.par_tree.Plain.{Class, Method, Declaration, Source}
+use Rattle.par_program_laws.specs.par_tree.Plain as plain
+use Rattle.par_program_laws.specs.par_typed.declared.table.Table.{Table}
 use Rattle.par_source_laws.specs.par_names.Declarations.{classes, builtins, classes_in}
 use Rattle.par_source_laws.specs.par_names.Program.{name_faults}
-use Rattle.par_annotation_laws.specs.par_scope.Names.{names_of}
-use Rattle.par_annotation_laws.specs.par_scope.Locals.{no_locals}
-use Rattle.par_annotation_laws.specs.par_scope.Home.{class_named, result_written}
-use Rattle.par_annotation_laws.specs.par_type_rules.Stmts.{braces_faults}
-use Rattle.par_annotation_laws.specs.par_type_rules.Methods as rules
-use Rattle.par_annotation_laws.specs.par_type_rules.Methods.{home_of, end_fault, fields_faults}
-use Rattle.par_annotation_laws.specs.par_type_rules.Methods.{method_faults}
-use Rattle.par_annotation_laws.specs.par_type_rules.Methods.{methods_faults, class_faults}
-use Rattle.par_annotation_laws.specs.par_type_rules.Program.{declaration_faults}
-use Rattle.par_annotation_laws.specs.par_type_rules.Program.{declarations_faults}
-use Rattle.par_annotation_laws.specs.par_type_rules.Program.{type_faults}
-use Rattle.par_annotation_laws.specs.Stmts.{Written}
-use Rattle.par_annotation_laws.specs.Bodies.{no_frame, with_params, typed_body, typed_methods}
-use Rattle.par_annotation_laws.specs.Bodies.{typed_class}
-use Rattle.par_annotation_laws.specs.Bodies.{typed_declaration, typed_declarations}
+use Rattle.par_type_rules.specs.par_scope.Names.{names_of}
+use Rattle.par_type_rules.specs.par_scope.Locals.{no_locals}
+use Rattle.par_type_rules.specs.par_scope.Home.{class_named, result_written}
+use Rattle.par_type_rules.specs.Stmts.{braces_faults}
+use Rattle.par_type_rules.specs.Methods as rules
+use Rattle.par_type_rules.specs.Methods.{home_of, end_fault, fields_faults}
+use Rattle.par_type_rules.specs.Methods.{method_faults}
+use Rattle.par_type_rules.specs.Methods.{methods_faults, class_faults}
+use Rattle.par_type_rules.specs.Program.{declaration_faults}
+use Rattle.par_type_rules.specs.Program.{declarations_faults}
+use Rattle.par_type_rules.specs.Program.{type_faults}
+use Rattle.par_type_rules.specs.TypedStmts.{Written}
+use Rattle.par_type_rules.specs.TypedBodies.{no_frame, with_params, typed_body, typed_methods}
+use Rattle.par_type_rules.specs.TypedBodies.{typed_class}
+use Rattle.par_type_rules.specs.TypedBodies.{typed_declaration, typed_declarations}
 use Rattle.par_faults.specs.par_resolved.Resolved.{Resolved, resolved, class_info, method_info}
 use Rattle.par_faults.specs.par_resolved.Resolved.{table_of}
 use Rattle.par_faults.specs.Faults.{all_faults}
 use Rattle.par_source_laws.specs.Order.{Ascend, IsInOrder}
-use Rattle.par_flow_laws.specs.par_typed.Members.{method_at}
-use Rattle.par_body_laws.specs.Makes.{StaMakes, MakesObjects}
+use Rattle.par_program_laws.specs.par_typed.Members.{method_at}
+use Rattle.par_program_laws.specs.Makes.{StaMakes, MakesObjects}
 use Rattle.par_typed_laws.specs.Typed.{written_in, bodies_of}
 use Rattle.par_typed_laws.proofs.Lists.{none_left, none_right, of_both}
 use Rattle.par_typed_laws.proofs.Places.{Differ}

@@ -2,19 +2,19 @@
 use Rattle.std.proofs.Common.{◌≡◌, ℕ, suc, ◌≤◌, Bool, List, [], ◌∷◌, length, Option, Some, None}
 use Rattle.std.proofs.Common.{refl, sym, ap, subst, cond}
 use Rattle.std.specs.Prelude.{slice_get}
-use Rattle.par_flow_laws.specs.par_typed.declared.table.ParamInfo.{ParamInfo}
-use Rattle.par_flow_laws.specs.par_typed.declared.table.MethodInfo.{MethodInfo}
-use Rattle.par_flow_laws.specs.par_typed.declared.table.ClassInfo.{ClassInfo}
-use Rattle.par_flow_laws.specs.par_typed.declared.table.Table.{Table}
-use Rattle.par_flow_laws.specs.par_typed.Plain.{Body}
-use Rattle.par_flow_laws.specs.Declares.{declares, method_of, params_of}
-use Rattle.par_flow_laws.specs.Ranges as rules
-use Rattle.par_flow_laws.specs.Ranges.{IsOrderly}
+use Rattle.par_program_laws.specs.par_typed.declared.table.ParamInfo.{ParamInfo}
+use Rattle.par_program_laws.specs.par_typed.declared.table.MethodInfo.{MethodInfo}
+use Rattle.par_program_laws.specs.par_typed.declared.table.ClassInfo.{ClassInfo}
+use Rattle.par_program_laws.specs.par_typed.declared.table.Table.{Table}
+use Rattle.par_program_laws.specs.par_typed.Plain.{Body}
+use Rattle.par_program_laws.specs.Declares.{declares, method_of, params_of}
+use Rattle.par_program_laws.specs.Ranges as rules
+use Rattle.par_program_laws.specs.Ranges.{IsOrderly}
 use Rattle.par_typed_laws.specs.Tables.{IsInRange, ClassInRange, MethodInRange}
-use Rattle.par_flow_laws.specs.par_typed.Members.{methods_in, method_at}
+use Rattle.par_program_laws.specs.par_typed.Members.{methods_in, method_at}
 use Rattle.par_typed_laws.specs.Orderly.{IsBodyOf, HasMethod}
-use Rattle.par_flow_laws.specs.Orderly.{IsOrderlyBody}
-use Rattle.par_flow_laws.proofs.Methods.{method_known}
+use Rattle.par_program_laws.specs.Orderly.{IsOrderlyBody}
+use Rattle.par_program_laws.proofs.Methods.{method_known}
 use Rattle.par_typed_laws.proofs.Numbered.{numbered}
 use Rattle.par_typed_laws.proofs.Ranges.{MayBe, at_place, MethodWithin, declared_within, sta_within}
 

@@ -8,35 +8,35 @@ use Rattle.std.specs.Str.{bytes_eq}
 use Rattle.std.proofs.lemmas.Option.{slice_get-map}
 use Rattle.par_index.specs.Texts.{has}
 use Rattle.par_index.proofs.Places.{position-within, position-is_some}
-use Rattle.par_body_laws.specs.par_tree.declared.decl.FieldDecl.{FieldDecl}
-use Rattle.par_body_laws.specs.par_tree.Plain.{Class, Method, Source}
-use Rattle.par_flow_laws.specs.par_typed.declared.ty.Ty.{Ty}
-use Rattle.par_flow_laws.specs.par_typed.declared.table.FieldInfo.{FieldInfo}
-use Rattle.par_flow_laws.specs.par_typed.declared.table.MethodInfo.{MethodInfo}
-use Rattle.par_flow_laws.specs.par_typed.declared.table.Table.{Table}
+use Rattle.par_program_laws.specs.par_tree.declared.decl.FieldDecl.{FieldDecl}
+use Rattle.par_program_laws.specs.par_tree.Plain.{Class, Method, Source}
+use Rattle.par_program_laws.specs.par_typed.declared.ty.Ty.{Ty}
+use Rattle.par_program_laws.specs.par_typed.declared.table.FieldInfo.{FieldInfo}
+use Rattle.par_program_laws.specs.par_typed.declared.table.MethodInfo.{MethodInfo}
+use Rattle.par_program_laws.specs.par_typed.declared.table.Table.{Table}
 use Rattle.par_refusals.specs.First.{when}
 use Rattle.par_source_laws.specs.par_names.Exprs.{own_fault}
 use Rattle.par_source_laws.specs.par_names.Members.{static_of, selected_named, callee_named}
 use Rattle.par_source_laws.specs.par_names.Members.{earlier_callee}
 use Rattle.par_source_laws.specs.par_names.Members.{channel_named, method_named}
 use Rattle.par_source_laws.proofs.par_names.Lookups.{at, found, map-map}
-use Rattle.par_annotation_laws.specs.par_scope.declared.members.Place.{Place}
-use Rattle.par_annotation_laws.specs.par_scope.declared.meaning.Receiver.TheVariants.{Own}
-use Rattle.par_annotation_laws.specs.par_scope.declared.meaning.Callee.{Callee}
-use Rattle.par_annotation_laws.specs.par_scope.declared.meaning.Callee.TheVariants as callee
-use Rattle.par_annotation_laws.specs.par_scope.Names.{names_of, member_names, number_in, fields_in}
-use Rattle.par_annotation_laws.specs.par_scope.Names.{channels_in}
-use Rattle.par_annotation_laws.specs.par_scope.Names.{methods_in}
-use Rattle.par_annotation_laws.specs.par_scope.Home.{Home}
-use Rattle.par_annotation_laws.specs.par_scope.Members.{field_at}
-use Rattle.par_flow_laws.specs.par_typed.Members as m
-use Rattle.par_annotation_laws.specs.par_scope.Members.{method_at}
-use Rattle.par_annotation_laws.specs.par_scope.Meaning.{placed, field_in, selected}
-use Rattle.par_annotation_laws.specs.par_scope.Meaning.{channel_or_method}
-use Rattle.par_annotation_laws.specs.par_scope.Meaning.{callee_in}
-use Rattle.par_annotation_laws.specs.par_scope.Meaning.{called}
-use Rattle.par_annotation_laws.specs.par_type_rules.Methods.{home_of}
-use Rattle.par_annotation_laws.specs.Frames.{Frame, var_at, var_named}
+use Rattle.par_type_rules.specs.par_scope.declared.members.Place.{Place}
+use Rattle.par_type_rules.specs.par_scope.declared.meaning.Receiver.TheVariants.{Own}
+use Rattle.par_type_rules.specs.par_scope.declared.meaning.Callee.{Callee}
+use Rattle.par_type_rules.specs.par_scope.declared.meaning.Callee.TheVariants as callee
+use Rattle.par_type_rules.specs.par_scope.Names.{names_of, member_names, number_in, fields_in}
+use Rattle.par_type_rules.specs.par_scope.Names.{channels_in}
+use Rattle.par_type_rules.specs.par_scope.Names.{methods_in}
+use Rattle.par_type_rules.specs.par_scope.Home.{Home}
+use Rattle.par_type_rules.specs.par_scope.Members.{field_at}
+use Rattle.par_program_laws.specs.par_typed.Members as m
+use Rattle.par_type_rules.specs.par_scope.Members.{method_at}
+use Rattle.par_type_rules.specs.par_scope.Meaning.{placed, field_in, selected}
+use Rattle.par_type_rules.specs.par_scope.Meaning.{channel_or_method}
+use Rattle.par_type_rules.specs.par_scope.Meaning.{callee_in}
+use Rattle.par_type_rules.specs.par_scope.Meaning.{called}
+use Rattle.par_type_rules.specs.Methods.{home_of}
+use Rattle.par_type_rules.specs.Frames.{Frame, var_at, var_named}
 use Rattle.par_faults.specs.par_resolved.Resolved.{Resolved, resolved, field_infos, channel_info}
 use Rattle.par_faults.specs.par_resolved.Resolved.{method_info}
 use Rattle.par_faults.specs.par_resolved.Resolved.{class_info, table_of}

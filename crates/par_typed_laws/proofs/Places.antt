@@ -8,7 +8,7 @@ use Rattle.std.specs.Str.{bytes_eq}
 use Rattle.std.proofs.lemmas.Bool.Decides.{nat_tests}
 use Rattle.std.proofs.lemmas.Slice.Eq.{bytes_eq-Decides}
 use Rattle.par_index.proofs.Places.{position-from}
-use Rattle.par_body_laws.specs.par_tree.declared.ident.Ident.{Ident}
+use Rattle.par_program_laws.specs.par_tree.declared.ident.Ident.{Ident}
 use Rattle.par_refusals.specs.First.{when, broken}
 use Rattle.par_source_laws.specs.par_names.Declarations.{has_earlier, double_fault, doubles}
 use Rattle.par_source_laws.specs.Order.{Ascend}

@@ -9,10 +9,10 @@ use Rattle.std.proofs.lemmas.List.Elements.{filter-append}
 use Rattle.std.proofs.lemmas.Option.{slice_get-get_or}
 use Rattle.std.proofs.lemmas.Bool.{leb-true}
 use Rattle.std.proofs.lemmas.Bool.Decides.{nat_tests}
-use Rattle.par_flow_laws.specs.par_policy.declared.clauses.Clause.{Clause}
-use Rattle.par_body_laws.specs.par_tree.declared.policy.PolicyExpr.{PolicyExpr}
-use Rattle.par_body_laws.specs.par_tree.declared.decl.FieldDecl.{FieldDecl}
-use Rattle.par_body_laws.specs.par_tree.Plain.{Class, Source}
+use Rattle.par_program_laws.specs.par_policy.declared.clauses.Clause.{Clause}
+use Rattle.par_program_laws.specs.par_tree.declared.policy.PolicyExpr.{PolicyExpr}
+use Rattle.par_program_laws.specs.par_tree.declared.decl.FieldDecl.{FieldDecl}
+use Rattle.par_program_laws.specs.par_tree.Plain.{Class, Source}
 use Rattle.par_faults.specs.par_resolved.declared.entries.Entry.{Entry}
 use Rattle.par_faults.specs.par_resolved.declared.limits.TheConstants.{MOST_POLICIES}
 use Rattle.par_faults.specs.par_resolved.Policies.{known, policy_of}

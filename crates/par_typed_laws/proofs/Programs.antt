@@ -9,26 +9,27 @@ use Rattle.std.specs.Str.{bytes_eq}
 use Rattle.std.proofs.lemmas.List.{length-map, length-append, map-append}
 use Rattle.std.proofs.lemmas.List.Concat.{flat_map-append}
 use Rattle.std.proofs.lemmas.Option.{slice_get-map}
-use Rattle.par_body_laws.specs.par_tree.declared.ident.Ident.{Ident}
-use Rattle.par_body_laws.specs.par_tree.declared.decl.ParamDecl.{ParamDecl}
-use Rattle.par_body_laws.specs.par_tree.Plain.{Sta, Block, If, While, Try, Return, Break, Continue}
-use Rattle.par_body_laws.specs.par_tree.Plain.{Throw, Open}
-use Rattle.par_body_laws.specs.par_tree.Plain.{Close}
-use Rattle.par_body_laws.specs.par_tree.Plain.{Declare, Assign, Do, When, Braces, In, MayBraces}
-use Rattle.par_body_laws.specs.par_tree.Plain.{NoBraces}
-use Rattle.par_body_laws.specs.par_tree.Plain.{Else, NoElse, Otherwise, Stas, End, Then, Catches}
-use Rattle.par_body_laws.specs.par_tree.Plain.{NoCatch, Catch}
-use Rattle.par_body_laws.specs.par_tree.Plain.{Handler, On}
-use Rattle.par_body_laws.specs.par_tree.Plain as plain
-use Rattle.par_body_laws.specs.par_tree.Plain.{Class, Method, Declaration, Source}
+use Rattle.par_program_laws.specs.par_tree.declared.ident.Ident.{Ident}
+use Rattle.par_program_laws.specs.par_tree.declared.decl.ParamDecl.{ParamDecl}
+use Rattle.par_program_laws.specs.par_tree.Plain.{Sta, Block, If, While, Try, Return, Break}
+use Rattle.par_program_laws.specs.par_tree.Plain.{Continue}
+use Rattle.par_program_laws.specs.par_tree.Plain.{Throw, Open}
+use Rattle.par_program_laws.specs.par_tree.Plain.{Close}
+use Rattle.par_program_laws.specs.par_tree.Plain.{Declare, Assign, Do, When, Braces, In, MayBraces}
+use Rattle.par_program_laws.specs.par_tree.Plain.{NoBraces}
+use Rattle.par_program_laws.specs.par_tree.Plain.{Else, NoElse, Otherwise, Stas, End, Then, Catches}
+use Rattle.par_program_laws.specs.par_tree.Plain.{NoCatch, Catch}
+use Rattle.par_program_laws.specs.par_tree.Plain.{Handler, On}
+use Rattle.par_program_laws.specs.par_tree.Plain as plain
+use Rattle.par_program_laws.specs.par_tree.Plain.{Class, Method, Declaration, Source}
 use Rattle.par_parts.specs.Statements.{inside, in_braces, in_may_braces, in_else}
 use Rattle.par_parts.specs.Statements.{in_all}
 use Rattle.par_parts.specs.Statements.{in_catches, in_handler}
 use Rattle.par_parts.specs.Written.{stmt_types}
-use Rattle.par_annotation_laws.specs.par_scope.Own.{locals_in, braces_locals, may_braces_locals}
-use Rattle.par_annotation_laws.specs.par_scope.Own.{else_locals}
-use Rattle.par_annotation_laws.specs.par_scope.Own.{all_locals, catches_locals, handler_locals}
-use Rattle.par_flow_laws.specs.par_typed.declared.table.Table.{Table}
+use Rattle.par_type_rules.specs.par_scope.Own.{locals_in, braces_locals, may_braces_locals}
+use Rattle.par_type_rules.specs.par_scope.Own.{else_locals}
+use Rattle.par_type_rules.specs.par_scope.Own.{all_locals, catches_locals, handler_locals}
+use Rattle.par_program_laws.specs.par_typed.declared.table.Table.{Table}
 use Rattle.par_source_laws.specs.par_names.Declarations.{classes, builtins, declared_classes}
 use Rattle.par_source_laws.specs.par_names.Declarations.{classes_in, doubles}
 use Rattle.par_source_laws.specs.par_names.Declarations.{locks}
@@ -37,27 +38,27 @@ use Rattle.par_source_laws.specs.par_names.Methods.{method_faults, channel_fault
 use Rattle.par_source_laws.specs.par_names.Program.{view_behind, program_doubles, mains}
 use Rattle.par_source_laws.specs.par_names.Program.{mains_faults}
 use Rattle.par_source_laws.specs.par_names.Program.{name_faults}
-use Rattle.par_annotation_laws.specs.par_scope.Names.{names_of, member_names, number_in, methods_in}
-use Rattle.par_annotation_laws.specs.par_scope.Home.{Home, class_named, result_written}
-use Rattle.par_annotation_laws.specs.par_type_rules.Methods.{home_of, param_slot}
+use Rattle.par_type_rules.specs.par_scope.Names.{names_of, member_names, number_in, methods_in}
+use Rattle.par_type_rules.specs.par_scope.Home.{Home, class_named, result_written}
+use Rattle.par_type_rules.specs.Methods.{home_of, param_slot}
 use Rattle.par_faults.specs.par_resolved.Numbers.{type_of}
 use Rattle.par_faults.specs.par_resolved.Resolved.{Resolved, resolved, class_info, class_infos}
 use Rattle.par_faults.specs.par_resolved.Resolved.{method_info}
 use Rattle.par_faults.specs.par_resolved.Resolved.{param_info, local_types, this_type, table_of}
-use Rattle.par_annotation_laws.specs.Frames.{Frame, with_local}
-use Rattle.par_annotation_laws.specs.Exprs.{numbered}
-use Rattle.par_annotation_laws.specs.Stmts.{Written}
-use Rattle.par_annotation_laws.specs.Bodies.{first_number, no_frame, with_params, typed_body}
-use Rattle.par_annotation_laws.specs.Bodies.{typed_method}
-use Rattle.par_annotation_laws.specs.Bodies.{typed_methods, typed_class, typed_declaration}
-use Rattle.par_annotation_laws.specs.Bodies.{typed_declarations}
-use Rattle.par_annotation_laws.proofs.Laws.{points_count}
+use Rattle.par_type_rules.specs.Frames.{Frame, with_local}
+use Rattle.par_type_rules.specs.TypedExprs.{numbered}
+use Rattle.par_type_rules.specs.TypedStmts.{Written}
+use Rattle.par_type_rules.specs.TypedBodies.{first_number, no_frame, with_params, typed_body}
+use Rattle.par_type_rules.specs.TypedBodies.{typed_method}
+use Rattle.par_type_rules.specs.TypedBodies.{typed_methods, typed_class, typed_declaration}
+use Rattle.par_type_rules.specs.TypedBodies.{typed_declarations}
+use Rattle.par_type_rules.proofs.PointLaws.{points_count}
 use Rattle.par_source_laws.specs.Order.{Ascend, IsInOrder}
 use Rattle.par_typed_laws.specs.Numbers.{StaInRange}
 use Rattle.par_typed_laws.specs.Typed.{written_in, bodies_of}
-use Rattle.par_flow_laws.specs.par_typed.Members as bodies
-use Rattle.par_flow_laws.specs.par_typed.Members.{method_at}
-use Rattle.par_body_laws.specs.Locals.{arrivals, set_by_call}
+use Rattle.par_program_laws.specs.par_typed.Members as bodies
+use Rattle.par_program_laws.specs.par_typed.Members.{method_at}
+use Rattle.par_program_laws.specs.Locals.{arrivals, set_by_call}
 use Rattle.par_typed_laws.specs.Orderly.{HasMethod}
 use Rattle.par_typed_laws.proofs.Lists.{none_left, none_right, of_both, each_is}
 use Rattle.par_typed_laws.proofs.Places.{Differ, number_is, Apart, apart, apart_behind, above}

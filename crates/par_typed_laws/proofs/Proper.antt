@@ -4,56 +4,57 @@ use Rattle.std.proofs.Common.{◌++◌, length, map, Option, Some, None, inl, in
 use Rattle.std.proofs.Common.{subst, ◌∙◌, arith}
 use Rattle.std.specs.Prelude.{slice_get}
 use Rattle.std.specs.List.{AllByRecursion, range_with_len}
-use Rattle.par_flow_laws.specs.par_lexer.declared.operator.BinOp.{BinOp}
-use Rattle.par_flow_laws.specs.par_lexer.declared.operator.BinOp.TheVariants as op
-use Rattle.par_flow_laws.specs.par_typed.declared.ty.Ty.{Ty}
-use Rattle.par_flow_laws.specs.par_typed.declared.ty.Ty.TheVariants as ty
-use Rattle.par_flow_laws.specs.par_typed.declared.table.FieldInfo.{FieldInfo}
-use Rattle.par_flow_laws.specs.par_typed.declared.table.ChannelInfo.{ChannelInfo}
-use Rattle.par_flow_laws.specs.par_typed.declared.table.ParamInfo.{ParamInfo}
-use Rattle.par_flow_laws.specs.par_typed.declared.table.MethodInfo.{MethodInfo}
-use Rattle.par_flow_laws.specs.par_typed.declared.table.ClassInfo.{ClassInfo}
-use Rattle.par_flow_laws.specs.par_typed.declared.table.Table.{Table}
-use Rattle.par_flow_laws.specs.par_typed.Plain.{Mark, mark}
-use Rattle.par_flow_laws.specs.par_typed.Plain.{TExp, Int, Boolean, Null, This, New, Local, Static}
-use Rattle.par_flow_laws.specs.par_typed.Plain.{Field, Input}
-use Rattle.par_flow_laws.specs.par_typed.Plain.{Output, Call, Neg, Not, Binary, MayTExp, Absent}
-use Rattle.par_flow_laws.specs.par_typed.Plain.{Present}
-use Rattle.par_flow_laws.specs.par_typed.Plain.{TExps, NoExps, More}
-use Rattle.par_flow_laws.specs.par_typed.Plain.{TSta, Block, If, While, Try, Return, Break}
-use Rattle.par_flow_laws.specs.par_typed.Plain.{Continue}
-use Rattle.par_flow_laws.specs.par_typed.Plain.{Throw, Open}
-use Rattle.par_flow_laws.specs.par_typed.Plain.{Close, SetLocal, SetStatic, SetField, Eval, When}
-use Rattle.par_flow_laws.specs.par_typed.Plain.{MayTSta, NoElse}
-use Rattle.par_flow_laws.specs.par_typed.Plain.{Otherwise, TStas, End, Then, TCatches, NoCatch}
-use Rattle.par_flow_laws.specs.par_typed.Plain.{Catch}
-use Rattle.par_flow_laws.specs.par_typed.Plain.{Body}
-use Rattle.par_annotation_laws.specs.par_scope.Meaning.{op_type}
-use Rattle.par_annotation_laws.specs.par_type_rules.Fits.{operand}
-use Rattle.par_body_laws.specs.par_completes.Typed.{completes}
-use Rattle.par_flow_laws.specs.par_typed.Members.{fields_in, methods_in}
-use Rattle.par_flow_laws.specs.par_typed.Members.{field_at, channel_at, method_at}
-use Rattle.par_body_laws.specs.Locals.{arriving, arriving_sure, BeginsWith, set_by_call, IsSet}
-use Rattle.par_body_laws.specs.Locals.{behind}
-use Rattle.par_body_laws.specs.Types.{IsMarked, IsValue, IsResult, Accepts, IsGiven, AreCompared}
-use Rattle.par_body_laws.specs.Types.{IsEnded, Operates}
-use Rattle.par_body_laws.specs.Uses.{StaUses, ElseUses, StasUse, CatchesUse}
-use Rattle.par_body_laws.specs.Forms.{Setting, IsReceiver, AreArguments, IsGivenBack, IsNew}
-use Rattle.par_body_laws.specs.Forms.{ReadsField}
-use Rattle.par_body_laws.specs.Forms.{UsesChannel, CallsMethod, SetsLocal, SetsField, IsThrown}
-use Rattle.par_body_laws.specs.Forms.{UsesLock, AsksLock}
-use Rattle.par_body_laws.specs.Proper.{ExpIsProper, MayExpIsProper, ExpsAreProper, StaIsProper}
-use Rattle.par_body_laws.specs.Proper.{ElseIsProper, AllAreProper, CatchesAreProper, IsProper}
+use Rattle.par_program_laws.specs.par_lexer.declared.operator.BinOp.{BinOp}
+use Rattle.par_program_laws.specs.par_lexer.declared.operator.BinOp.TheVariants as op
+use Rattle.par_program_laws.specs.par_typed.declared.ty.Ty.{Ty}
+use Rattle.par_program_laws.specs.par_typed.declared.ty.Ty.TheVariants as ty
+use Rattle.par_program_laws.specs.par_typed.declared.table.FieldInfo.{FieldInfo}
+use Rattle.par_program_laws.specs.par_typed.declared.table.ChannelInfo.{ChannelInfo}
+use Rattle.par_program_laws.specs.par_typed.declared.table.ParamInfo.{ParamInfo}
+use Rattle.par_program_laws.specs.par_typed.declared.table.MethodInfo.{MethodInfo}
+use Rattle.par_program_laws.specs.par_typed.declared.table.ClassInfo.{ClassInfo}
+use Rattle.par_program_laws.specs.par_typed.declared.table.Table.{Table}
+use Rattle.par_program_laws.specs.par_typed.Plain.{Mark, mark}
+use Rattle.par_program_laws.specs.par_typed.Plain.{TExp, Int, Boolean, Null, This, New, Local}
+use Rattle.par_program_laws.specs.par_typed.Plain.{Static}
+use Rattle.par_program_laws.specs.par_typed.Plain.{Field, Input}
+use Rattle.par_program_laws.specs.par_typed.Plain.{Output, Call, Neg, Not, Binary, MayTExp, Absent}
+use Rattle.par_program_laws.specs.par_typed.Plain.{Present}
+use Rattle.par_program_laws.specs.par_typed.Plain.{TExps, NoExps, More}
+use Rattle.par_program_laws.specs.par_typed.Plain.{TSta, Block, If, While, Try, Return, Break}
+use Rattle.par_program_laws.specs.par_typed.Plain.{Continue}
+use Rattle.par_program_laws.specs.par_typed.Plain.{Throw, Open}
+use Rattle.par_program_laws.specs.par_typed.Plain.{Close, SetLocal, SetStatic, SetField, Eval, When}
+use Rattle.par_program_laws.specs.par_typed.Plain.{MayTSta, NoElse}
+use Rattle.par_program_laws.specs.par_typed.Plain.{Otherwise, TStas, End, Then, TCatches, NoCatch}
+use Rattle.par_program_laws.specs.par_typed.Plain.{Catch}
+use Rattle.par_program_laws.specs.par_typed.Plain.{Body}
+use Rattle.par_type_rules.specs.par_scope.Meaning.{op_type}
+use Rattle.par_type_rules.specs.Fits.{operand}
+use Rattle.par_program_laws.specs.par_completes.Typed.{completes}
+use Rattle.par_program_laws.specs.par_typed.Members.{fields_in, methods_in}
+use Rattle.par_program_laws.specs.par_typed.Members.{field_at, channel_at, method_at}
+use Rattle.par_program_laws.specs.Locals.{arriving, arriving_sure, BeginsWith, set_by_call, IsSet}
+use Rattle.par_program_laws.specs.Locals.{behind}
+use Rattle.par_program_laws.specs.Types.{IsMarked, IsValue, IsResult, Accepts, IsGiven, AreCompared}
+use Rattle.par_program_laws.specs.Types.{IsEnded, Operates}
+use Rattle.par_program_laws.specs.Uses.{StaUses, ElseUses, StasUse, CatchesUse}
+use Rattle.par_program_laws.specs.Forms.{Setting, IsReceiver, AreArguments, IsGivenBack, IsNew}
+use Rattle.par_program_laws.specs.Forms.{ReadsField}
+use Rattle.par_program_laws.specs.Forms.{UsesChannel, CallsMethod, SetsLocal, SetsField, IsThrown}
+use Rattle.par_program_laws.specs.Forms.{UsesLock, AsksLock}
+use Rattle.par_program_laws.specs.Proper.{ExpIsProper, MayExpIsProper, ExpsAreProper, StaIsProper}
+use Rattle.par_program_laws.specs.Proper.{ElseIsProper, AllAreProper, CatchesAreProper, IsProper}
 use Rattle.par_typed_laws.specs.Tables.{IsLock, MayBePolicy, LockInRange, IsInRange}
 use Rattle.par_typed_laws.specs.Numbers.{ExpReads, MayExpRead, ExpsRead, StaInRange, ElseInRange}
 use Rattle.par_typed_laws.specs.Numbers.{StasInRange, CatchesInRange}
 use Rattle.par_typed_laws.specs.SetFirst.{SetsFirst, ElseSetsFirst, AllSetFirst, CatchesSetFirst}
 use Rattle.par_typed_laws.specs.Orderly.{HasMethod}
-use Rattle.par_body_laws.specs.Names.{IsField, IsChannel, IsException, is_present, IsCalled}
-use Rattle.par_body_laws.specs.Names.{MayBeObject, ExpNames, MayExpNames, ExpsName, StaNames}
-use Rattle.par_body_laws.specs.Names.{ElseNames, StasName, CatchesName}
-use Rattle.par_body_laws.specs.Makes.{IsOrdinary, ExpMakes, MayExpMakes, ExpsMake, StaMakes}
-use Rattle.par_body_laws.specs.Makes.{ElseMakes, StasMake, CatchesMake, MakesObjects}
+use Rattle.par_program_laws.specs.BodyNames.{IsField, IsChannel, IsException, is_present, IsCalled}
+use Rattle.par_program_laws.specs.BodyNames.{MayBeObject, ExpNames, MayExpNames, ExpsName, StaNames}
+use Rattle.par_program_laws.specs.BodyNames.{ElseNames, StasName, CatchesName}
+use Rattle.par_program_laws.specs.Makes.{IsOrdinary, ExpMakes, MayExpMakes, ExpsMake, StaMakes}
+use Rattle.par_program_laws.specs.Makes.{ElseMakes, StasMake, CatchesMake, MakesObjects}
 use Rattle.par_typed_laws.specs.Fits.{Fits, IsSure, Takes, LocalTakes, IsReadOf, FieldTakes}
 use Rattle.par_typed_laws.specs.Fits.{ParamsTake, IsCallOf, AreOperands, IsReturned, ExpFits}
 use Rattle.par_typed_laws.specs.Fits.{MayExpFits, ExpsFit, StaFits, ElseFits, StasFit, CatchesFit}

@@ -5,31 +5,33 @@ use Rattle.std.specs.Prelude.{slice_get, nat_eq}
 use Rattle.std.specs.List.{AllByRecursion, All}
 use Rattle.std.proofs.lemmas.Bool.Decides.{nat_tests}
 use Rattle.std.proofs.lemmas.List.Elements.{All-nil, All-cons}
-use Rattle.par_flow_laws.specs.par_lexer.declared.operator.BinOp.{BinOp}
-use Rattle.par_flow_laws.specs.par_lexer.declared.operator.BinOp.TheVariants as op
-use Rattle.par_flow_laws.specs.par_policy.Numbers.{has}
+use Rattle.par_program_laws.specs.par_lexer.declared.operator.BinOp.{BinOp}
+use Rattle.par_program_laws.specs.par_lexer.declared.operator.BinOp.TheVariants as op
+use Rattle.par_program_laws.specs.par_policy.Numbers.{has}
 use Rattle.par_bits.specs.Sets.{adding, none}
-use Rattle.par_flow_laws.specs.par_typed.declared.table.GroundLock.{GroundLock}
-use Rattle.par_flow_laws.specs.par_typed.declared.table.FieldInfo.{FieldInfo}
-use Rattle.par_flow_laws.specs.par_typed.declared.table.ChannelInfo.{ChannelInfo}
-use Rattle.par_flow_laws.specs.par_typed.declared.table.ParamInfo.{ParamInfo}
-use Rattle.par_flow_laws.specs.par_typed.declared.table.ThrowInfo.{ThrowInfo}
-use Rattle.par_flow_laws.specs.par_typed.declared.table.MethodInfo.{MethodInfo}
-use Rattle.par_flow_laws.specs.par_typed.declared.table.ClassInfo.{ClassInfo}
-use Rattle.par_flow_laws.specs.par_typed.declared.table.Table.{Table}
-use Rattle.par_flow_laws.specs.par_typed.Plain as plain
-use Rattle.par_flow_laws.specs.par_typed.Plain.{TExp, TExps, TSta, TStas, TCatches, mark}
-use Rattle.par_flow_laws.specs.Kinds as kind
-use Rattle.par_flow_laws.specs.Kinds.{Kind}
-use Rattle.par_flow_laws.specs.Declares.{Declares, Method, Thrown, NO_METHOD, declares, method_of}
-use Rattle.par_flow_laws.specs.Declares.{methods_of, params_of, throws_of, field_of, fields_of}
-use Rattle.par_flow_laws.specs.Declares.{channel_of, channels_of, birth_of, lock_of, lock_policy}
-use Rattle.par_flow_laws.specs.Rules.{From, Entry, After, Node, Rules, Leaves, can}
-use Rattle.par_flow_laws.specs.Body.{exp, args, sta, stas, catches, if_not, divides, second, skips}
-use Rattle.par_flow_laws.specs.Body.{is_forever, thrown, called, past, tested, args_past}
-use Rattle.par_flow_laws.specs.Body.{args_tested}
-use Rattle.par_flow_laws.specs.Ranges as rules
-use Rattle.par_flow_laws.specs.Ranges.{MOST, IsFromInRange, IsInRange, AreInRange}
+use Rattle.par_program_laws.specs.par_typed.declared.table.GroundLock.{GroundLock}
+use Rattle.par_program_laws.specs.par_typed.declared.table.FieldInfo.{FieldInfo}
+use Rattle.par_program_laws.specs.par_typed.declared.table.ChannelInfo.{ChannelInfo}
+use Rattle.par_program_laws.specs.par_typed.declared.table.ParamInfo.{ParamInfo}
+use Rattle.par_program_laws.specs.par_typed.declared.table.ThrowInfo.{ThrowInfo}
+use Rattle.par_program_laws.specs.par_typed.declared.table.MethodInfo.{MethodInfo}
+use Rattle.par_program_laws.specs.par_typed.declared.table.ClassInfo.{ClassInfo}
+use Rattle.par_program_laws.specs.par_typed.declared.table.Table.{Table}
+use Rattle.par_program_laws.specs.par_typed.Plain as plain
+use Rattle.par_program_laws.specs.par_typed.Plain.{TExp, TExps, TSta, TStas, TCatches, mark}
+use Rattle.par_program_laws.specs.Kinds as kind
+use Rattle.par_program_laws.specs.Kinds.{Kind}
+use Rattle.par_program_laws.specs.Declares.{Declares, Method, Thrown, NO_METHOD, declares}
+use Rattle.par_program_laws.specs.Declares.{method_of}
+use Rattle.par_program_laws.specs.Declares.{methods_of, params_of, throws_of, field_of, fields_of}
+use Rattle.par_program_laws.specs.Declares.{channel_of, channels_of, birth_of, lock_of, lock_policy}
+use Rattle.par_program_laws.specs.Rules.{From, Entry, After, Node, Rules, Leaves, can}
+use Rattle.par_program_laws.specs.Body.{exp, args, sta, stas, catches, if_not, divides, second}
+use Rattle.par_program_laws.specs.Body.{skips}
+use Rattle.par_program_laws.specs.Body.{is_forever, thrown, called, past, tested, args_past}
+use Rattle.par_program_laws.specs.Body.{args_tested}
+use Rattle.par_program_laws.specs.Ranges as rules
+use Rattle.par_program_laws.specs.Ranges.{MOST, IsFromInRange, IsInRange, AreInRange}
 use Rattle.par_typed_laws.specs.Tables as tables
 use Rattle.par_typed_laws.specs.Tables.{IsPolicy, IsLock, MayBePolicy, ClassInRange, MethodInRange}
 use Rattle.par_typed_laws.specs.Tables.{LockInRange, FieldInRange, ChannelInRange, ParamInRange}

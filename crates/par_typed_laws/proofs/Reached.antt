@@ -5,64 +5,65 @@ use Rattle.std.proofs.Common.{length, Option, Some, None, refl, sym, ap, subst, 
 use Rattle.std.proofs.Common.{map}
 use Rattle.std.specs.Prelude.{flat_map, slice_get}
 use Rattle.std.specs.List.{AllByRecursion}
-use Rattle.par_body_laws.specs.par_tree.Plain.{Sta, Block, If, While, Try, Return, Break, Continue}
-use Rattle.par_body_laws.specs.par_tree.Plain.{Throw, Open}
-use Rattle.par_body_laws.specs.par_tree.Plain.{Close}
-use Rattle.par_body_laws.specs.par_tree.Plain.{Declare, Assign, Do, When, Braces, In, MayBraces}
-use Rattle.par_body_laws.specs.par_tree.Plain.{NoBraces}
-use Rattle.par_body_laws.specs.par_tree.Plain.{Else, NoElse, Otherwise, Stas, End, Then, Catches}
-use Rattle.par_body_laws.specs.par_tree.Plain.{NoCatch, Catch}
-use Rattle.par_body_laws.specs.par_tree.Plain.{On}
-use Rattle.par_body_laws.specs.par_tree.Plain as plain
-use Rattle.par_body_laws.specs.par_tree.Plain.{Class, Method, Declaration, Source}
-use Rattle.par_flow_laws.specs.par_typed.declared.ty.Ty.{Ty}
-use Rattle.par_flow_laws.specs.par_typed.declared.ty.Ty.TheVariants as ty
-use Rattle.par_flow_laws.specs.par_typed.declared.table.Table.{Table}
+use Rattle.par_program_laws.specs.par_tree.Plain.{Sta, Block, If, While, Try, Return, Break}
+use Rattle.par_program_laws.specs.par_tree.Plain.{Continue}
+use Rattle.par_program_laws.specs.par_tree.Plain.{Throw, Open}
+use Rattle.par_program_laws.specs.par_tree.Plain.{Close}
+use Rattle.par_program_laws.specs.par_tree.Plain.{Declare, Assign, Do, When, Braces, In, MayBraces}
+use Rattle.par_program_laws.specs.par_tree.Plain.{NoBraces}
+use Rattle.par_program_laws.specs.par_tree.Plain.{Else, NoElse, Otherwise, Stas, End, Then, Catches}
+use Rattle.par_program_laws.specs.par_tree.Plain.{NoCatch, Catch}
+use Rattle.par_program_laws.specs.par_tree.Plain.{On}
+use Rattle.par_program_laws.specs.par_tree.Plain as plain
+use Rattle.par_program_laws.specs.par_tree.Plain.{Class, Method, Declaration, Source}
+use Rattle.par_program_laws.specs.par_typed.declared.ty.Ty.{Ty}
+use Rattle.par_program_laws.specs.par_typed.declared.ty.Ty.TheVariants as ty
+use Rattle.par_program_laws.specs.par_typed.declared.table.Table.{Table}
 use Rattle.par_refusals.specs.First.{when, broken}
-use Rattle.par_flow_laws.specs.par_typed.Plain.{TExp}
-use Rattle.par_body_laws.specs.par_completes.Completes.{completes, braces_complete}
-use Rattle.par_body_laws.specs.par_completes.Typed as ends
+use Rattle.par_program_laws.specs.par_typed.Plain.{TExp}
+use Rattle.par_program_laws.specs.par_completes.Completes.{completes, braces_complete}
+use Rattle.par_program_laws.specs.par_completes.Typed as ends
 use Rattle.par_source_laws.specs.par_names.Declarations.{classes, builtins, classes_in}
 use Rattle.par_source_laws.specs.par_names.Program.{view_behind, name_faults}
-use Rattle.par_annotation_laws.specs.par_scope.Names.{names_of}
-use Rattle.par_annotation_laws.specs.par_scope.Locals.{no_locals}
-use Rattle.par_annotation_laws.specs.par_scope.Home.{Home, class_named, result_written}
-use Rattle.par_annotation_laws.specs.par_type_rules.Fits.{is_void}
-use Rattle.par_annotation_laws.specs.par_type_rules.Stmts as types
-use Rattle.par_annotation_laws.specs.par_type_rules.Stmts.{throw_fault, test_faults, declares}
-use Rattle.par_annotation_laws.specs.par_type_rules.Stmts.{stmt_faults}
-use Rattle.par_annotation_laws.specs.par_type_rules.Stmts.{braces_faults}
-use Rattle.par_annotation_laws.specs.par_type_rules.Stmts.{may_braces_faults, else_faults}
-use Rattle.par_annotation_laws.specs.par_type_rules.Stmts.{stmts_faults}
-use Rattle.par_annotation_laws.specs.par_type_rules.Stmts.{catches_faults}
-use Rattle.par_annotation_laws.specs.par_type_rules.Stmts.{handler_faults}
-use Rattle.par_annotation_laws.specs.par_type_rules.Methods as rules
-use Rattle.par_annotation_laws.specs.par_type_rules.Methods.{home_of, result_fault, params_faults}
-use Rattle.par_annotation_laws.specs.par_type_rules.Methods.{throws_faults, end_fault}
-use Rattle.par_annotation_laws.specs.par_type_rules.Methods.{fields_faults, method_faults}
-use Rattle.par_annotation_laws.specs.par_type_rules.Methods.{methods_faults}
-use Rattle.par_annotation_laws.specs.par_type_rules.Methods.{class_faults}
-use Rattle.par_annotation_laws.specs.par_type_rules.Program.{declaration_faults}
-use Rattle.par_annotation_laws.specs.par_type_rules.Program.{declarations_faults}
-use Rattle.par_annotation_laws.specs.par_type_rules.Program.{type_faults}
-use Rattle.par_annotation_laws.specs.Frames.{Frame, further}
-use Rattle.par_annotation_laws.specs.Stmts.{Written, Target, Nowhere, ToLocal, ToStatic, ToField}
-use Rattle.par_annotation_laws.specs.Stmts.{target}
-use Rattle.par_annotation_laws.specs.Stmts.{assignment, behind}
-use Rattle.par_annotation_laws.specs.par_scope.Own.{braces_locals, handler_locals}
-use Rattle.par_annotation_laws.specs.Stmts.{typed_sta, typed_braces, typed_may_braces, typed_else}
-use Rattle.par_annotation_laws.specs.Stmts.{typed_stas, typed_catches}
-use Rattle.par_annotation_laws.specs.Bodies.{no_frame, with_params, typed_body, typed_methods}
-use Rattle.par_annotation_laws.specs.Bodies.{typed_class}
-use Rattle.par_annotation_laws.specs.Bodies.{typed_declaration, typed_declarations}
+use Rattle.par_type_rules.specs.par_scope.Names.{names_of}
+use Rattle.par_type_rules.specs.par_scope.Locals.{no_locals}
+use Rattle.par_type_rules.specs.par_scope.Home.{Home, class_named, result_written}
+use Rattle.par_type_rules.specs.Fits.{is_void}
+use Rattle.par_type_rules.specs.Stmts as types
+use Rattle.par_type_rules.specs.Stmts.{throw_fault, test_faults, declares}
+use Rattle.par_type_rules.specs.Stmts.{stmt_faults}
+use Rattle.par_type_rules.specs.Stmts.{braces_faults}
+use Rattle.par_type_rules.specs.Stmts.{may_braces_faults, else_faults}
+use Rattle.par_type_rules.specs.Stmts.{stmts_faults}
+use Rattle.par_type_rules.specs.Stmts.{catches_faults}
+use Rattle.par_type_rules.specs.Stmts.{handler_faults}
+use Rattle.par_type_rules.specs.Methods as rules
+use Rattle.par_type_rules.specs.Methods.{home_of, result_fault, params_faults}
+use Rattle.par_type_rules.specs.Methods.{throws_faults, end_fault}
+use Rattle.par_type_rules.specs.Methods.{fields_faults, method_faults}
+use Rattle.par_type_rules.specs.Methods.{methods_faults}
+use Rattle.par_type_rules.specs.Methods.{class_faults}
+use Rattle.par_type_rules.specs.Program.{declaration_faults}
+use Rattle.par_type_rules.specs.Program.{declarations_faults}
+use Rattle.par_type_rules.specs.Program.{type_faults}
+use Rattle.par_type_rules.specs.Frames.{Frame, further}
+use Rattle.par_type_rules.specs.TypedStmts.{Written, Target, Nowhere, ToLocal, ToStatic, ToField}
+use Rattle.par_type_rules.specs.TypedStmts.{target}
+use Rattle.par_type_rules.specs.TypedStmts.{assignment, behind}
+use Rattle.par_type_rules.specs.par_scope.Own.{braces_locals, handler_locals}
+use Rattle.par_type_rules.specs.TypedStmts.{typed_sta, typed_braces, typed_may_braces, typed_else}
+use Rattle.par_type_rules.specs.TypedStmts.{typed_stas, typed_catches}
+use Rattle.par_type_rules.specs.TypedBodies.{no_frame, with_params, typed_body, typed_methods}
+use Rattle.par_type_rules.specs.TypedBodies.{typed_class}
+use Rattle.par_type_rules.specs.TypedBodies.{typed_declaration, typed_declarations}
 use Rattle.par_faults.specs.par_resolved.Numbers.{result_of}
 use Rattle.par_faults.specs.par_resolved.Resolved.{Resolved, resolved, class_info, method_info}
 use Rattle.par_faults.specs.par_resolved.Resolved.{table_of}
 use Rattle.par_faults.specs.Faults.{all_faults}
 use Rattle.par_source_laws.specs.Order.{Ascend, IsInOrder}
-use Rattle.par_flow_laws.specs.par_typed.Members.{method_at}
+use Rattle.par_program_laws.specs.par_typed.Members.{method_at}
 use Rattle.par_typed_laws.specs.Control.{StaReached, ElseReached, AllReached, CatchesReached}
-use Rattle.par_body_laws.specs.Types.{IsEnded}
+use Rattle.par_program_laws.specs.Types.{IsEnded}
 use Rattle.par_typed_laws.specs.Control.{IsControlled}
 use Rattle.par_typed_laws.specs.Typed.{written_in, bodies_of}
 use Rattle.par_typed_laws.proofs.Lists.{none_left, none_right, of_both}

@@ -4,42 +4,44 @@ use Rattle.std.proofs.Common.{◌∷◌, length, Option, Some, None, IsTrue, ref
 use Rattle.std.specs.Prelude.{nat_eq}
 use Rattle.std.specs.List.{range_with_len}
 use Rattle.std.proofs.lemmas.Bool.Decides.{nat_tests}
-use Rattle.par_flow_laws.specs.par_policy.Numbers.{has}
-use Rattle.par_body_laws.specs.par_tree.declared.decl.ParamDecl.{ParamDecl}
-use Rattle.par_body_laws.specs.par_tree.Plain.{Exp, Int, True, False, Null, This, New, Name, Field}
-use Rattle.par_body_laws.specs.par_tree.Plain.{Call, Neg}
-use Rattle.par_body_laws.specs.par_tree.Plain.{Not, Binary}
-use Rattle.par_body_laws.specs.par_tree.Plain.{Sta, Block, If, While, Try, Return, Break, Continue}
-use Rattle.par_body_laws.specs.par_tree.Plain.{Throw, Open}
-use Rattle.par_body_laws.specs.par_tree.Plain.{Close}
-use Rattle.par_body_laws.specs.par_tree.Plain.{Declare, Assign, Do, When, Braces, In, MayBraces}
-use Rattle.par_body_laws.specs.par_tree.Plain.{NoBraces}
-use Rattle.par_body_laws.specs.par_tree.Plain.{Else, NoElse, Otherwise, Stas, End, Then, Catches}
-use Rattle.par_body_laws.specs.par_tree.Plain.{NoCatch, Catch}
-use Rattle.par_body_laws.specs.par_tree.Plain.{On}
-use Rattle.par_body_laws.specs.par_tree.Plain as plain
-use Rattle.par_flow_laws.specs.par_typed.Plain.{TExp}
-use Rattle.par_annotation_laws.specs.par_scope.declared.members.Place.{Place}
-use Rattle.par_annotation_laws.specs.par_scope.declared.locals.Slot.{Slot}
-use Rattle.par_annotation_laws.specs.par_scope.declared.meaning.Receiver as meaning
-use Rattle.par_annotation_laws.specs.par_scope.declared.meaning.Receiver.TheVariants as receiver
-use Rattle.par_annotation_laws.specs.par_scope.Home.{Home}
-use Rattle.par_annotation_laws.specs.par_scope.Members.{field_at, field_is_static}
-use Rattle.par_annotation_laws.specs.par_scope.Meaning.{type_of, receiver_of, selected}
-use Rattle.par_annotation_laws.specs.par_type_rules.Methods.{param_slot}
-use Rattle.par_annotation_laws.specs.par_type_rules.Stmts.{slot_of}
-use Rattle.par_annotation_laws.specs.Frames.{Frame, Var, var_named, with_local, further}
-use Rattle.par_annotation_laws.specs.Exprs.{own_this, typed_exp}
-use Rattle.par_annotation_laws.specs.Stmts.{Written, may_policy, Target, Nowhere, ToLocal, ToStatic}
-use Rattle.par_annotation_laws.specs.Stmts.{ToField, target, target_nodes, assignment}
-use Rattle.par_annotation_laws.specs.Stmts.{own_target, name_target, selected_target, behind}
-use Rattle.par_annotation_laws.specs.par_scope.Own.{braces_locals, handler_locals}
-use Rattle.par_annotation_laws.specs.Stmts.{typed_sta, typed_braces, typed_may_braces, typed_else}
-use Rattle.par_annotation_laws.specs.Stmts.{typed_stas, typed_catches}
-use Rattle.par_annotation_laws.specs.Bodies.{with_params}
+use Rattle.par_program_laws.specs.par_policy.Numbers.{has}
+use Rattle.par_program_laws.specs.par_tree.declared.decl.ParamDecl.{ParamDecl}
+use Rattle.par_program_laws.specs.par_tree.Plain.{Exp, Int, True, False, Null, This, New, Name}
+use Rattle.par_program_laws.specs.par_tree.Plain.{Field}
+use Rattle.par_program_laws.specs.par_tree.Plain.{Call, Neg}
+use Rattle.par_program_laws.specs.par_tree.Plain.{Not, Binary}
+use Rattle.par_program_laws.specs.par_tree.Plain.{Sta, Block, If, While, Try, Return, Break}
+use Rattle.par_program_laws.specs.par_tree.Plain.{Continue}
+use Rattle.par_program_laws.specs.par_tree.Plain.{Throw, Open}
+use Rattle.par_program_laws.specs.par_tree.Plain.{Close}
+use Rattle.par_program_laws.specs.par_tree.Plain.{Declare, Assign, Do, When, Braces, In, MayBraces}
+use Rattle.par_program_laws.specs.par_tree.Plain.{NoBraces}
+use Rattle.par_program_laws.specs.par_tree.Plain.{Else, NoElse, Otherwise, Stas, End, Then, Catches}
+use Rattle.par_program_laws.specs.par_tree.Plain.{NoCatch, Catch}
+use Rattle.par_program_laws.specs.par_tree.Plain.{On}
+use Rattle.par_program_laws.specs.par_tree.Plain as plain
+use Rattle.par_program_laws.specs.par_typed.Plain.{TExp}
+use Rattle.par_type_rules.specs.par_scope.declared.members.Place.{Place}
+use Rattle.par_type_rules.specs.par_scope.declared.locals.Slot.{Slot}
+use Rattle.par_type_rules.specs.par_scope.declared.meaning.Receiver as meaning
+use Rattle.par_type_rules.specs.par_scope.declared.meaning.Receiver.TheVariants as receiver
+use Rattle.par_type_rules.specs.par_scope.Home.{Home}
+use Rattle.par_type_rules.specs.par_scope.Members.{field_at, field_is_static}
+use Rattle.par_type_rules.specs.par_scope.Meaning.{type_of, receiver_of, selected}
+use Rattle.par_type_rules.specs.Methods.{param_slot}
+use Rattle.par_type_rules.specs.Stmts.{slot_of}
+use Rattle.par_type_rules.specs.Frames.{Frame, Var, var_named, with_local, further}
+use Rattle.par_type_rules.specs.TypedExprs.{own_this, typed_exp}
+use Rattle.par_type_rules.specs.TypedStmts.{Written, may_policy, Target, Nowhere, ToLocal, ToStatic}
+use Rattle.par_type_rules.specs.TypedStmts.{ToField, target, target_nodes, assignment}
+use Rattle.par_type_rules.specs.TypedStmts.{own_target, name_target, selected_target, behind}
+use Rattle.par_type_rules.specs.par_scope.Own.{braces_locals, handler_locals}
+use Rattle.par_type_rules.specs.TypedStmts.{typed_sta, typed_braces, typed_may_braces, typed_else}
+use Rattle.par_type_rules.specs.TypedStmts.{typed_stas, typed_catches}
+use Rattle.par_type_rules.specs.TypedBodies.{with_params}
 use Rattle.par_typed_laws.specs.Numbers.{ExpReads}
-use Rattle.par_body_laws.specs.Locals as set_first
-use Rattle.par_body_laws.specs.Locals.{IsSet}
+use Rattle.par_program_laws.specs.Locals as set_first
+use Rattle.par_program_laws.specs.Locals.{IsSet}
 use Rattle.par_typed_laws.specs.SetFirst.{SetsFirst, ElseSetsFirst, AllSetFirst}
 use Rattle.par_typed_laws.specs.SetFirst.{CatchesSetFirst}
 use Rattle.par_typed_laws.proofs.Lists.{of_both, each_is}

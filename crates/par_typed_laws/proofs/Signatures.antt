@@ -4,16 +4,16 @@ use Rattle.std.proofs.Common.{Some, None, refl, sym, ap, subst, ◌∙◌, appen
 use Rattle.std.specs.Prelude.{flat_map, slice_get, count_by, if◌then◌else◌, codes}
 use Rattle.std.specs.List.{AllByRecursion}
 use Rattle.std.proofs.lemmas.List.{length-append}
-use Rattle.par_body_laws.specs.par_tree.declared.types.TypeTree.{TypeTree}
-use Rattle.par_body_laws.specs.par_tree.declared.policy.PolicyExpr.{PolicyExpr}
-use Rattle.par_body_laws.specs.par_tree.declared.decl.FieldDecl.{FieldDecl}
-use Rattle.par_body_laws.specs.par_tree.declared.decl.ParamDecl.{ParamDecl}
-use Rattle.par_body_laws.specs.par_tree.declared.decl.ThrowDecl.{ThrowDecl}
-use Rattle.par_body_laws.specs.par_tree.Plain.{Class, Method, Declaration, Source}
-use Rattle.par_body_laws.specs.par_tree.Plain as plain
-use Rattle.par_flow_laws.specs.par_typed.declared.ty.Ty.{Ty}
-use Rattle.par_flow_laws.specs.par_typed.declared.ty.Ty.TheVariants as ty
-use Rattle.par_flow_laws.specs.par_typed.declared.table.Table.{Table}
+use Rattle.par_program_laws.specs.par_tree.declared.types.TypeTree.{TypeTree}
+use Rattle.par_program_laws.specs.par_tree.declared.policy.PolicyExpr.{PolicyExpr}
+use Rattle.par_program_laws.specs.par_tree.declared.decl.FieldDecl.{FieldDecl}
+use Rattle.par_program_laws.specs.par_tree.declared.decl.ParamDecl.{ParamDecl}
+use Rattle.par_program_laws.specs.par_tree.declared.decl.ThrowDecl.{ThrowDecl}
+use Rattle.par_program_laws.specs.par_tree.Plain.{Class, Method, Declaration, Source}
+use Rattle.par_program_laws.specs.par_tree.Plain as plain
+use Rattle.par_program_laws.specs.par_typed.declared.ty.Ty.{Ty}
+use Rattle.par_program_laws.specs.par_typed.declared.ty.Ty.TheVariants as ty
+use Rattle.par_program_laws.specs.par_typed.declared.table.Table.{Table}
 use Rattle.par_source_laws.specs.par_names.Declarations.{classes, builtin, builtins, classes_in}
 use Rattle.par_source_laws.specs.par_names.Declarations.{declared_classes, doubles}
 use Rattle.par_source_laws.specs.par_names.Members.{callee_ids}
@@ -22,19 +22,19 @@ use Rattle.par_source_laws.specs.par_names.Methods.{field_faults, channel_faults
 use Rattle.par_source_laws.specs.par_names.Methods.{param_faults}
 use Rattle.par_source_laws.specs.par_names.Policies.{may_policy_faults, type_fault, result_fault}
 use Rattle.par_source_laws.specs.par_names.Program.{view_behind, name_faults}
-use Rattle.par_annotation_laws.specs.par_scope.Names.{names_of}
-use Rattle.par_annotation_laws.specs.par_scope.Locals.{no_locals}
-use Rattle.par_annotation_laws.specs.par_scope.Home.{Home, class_named, result_written}
-use Rattle.par_annotation_laws.specs.par_type_rules.Stmts as types
-use Rattle.par_annotation_laws.specs.par_type_rules.Stmts.{throw_fault, braces_faults}
-use Rattle.par_annotation_laws.specs.par_type_rules.Methods as rules
-use Rattle.par_annotation_laws.specs.par_type_rules.Methods.{home_of, params_faults, throws_faults}
-use Rattle.par_annotation_laws.specs.par_type_rules.Methods.{fields_faults, end_fault}
-use Rattle.par_annotation_laws.specs.par_type_rules.Methods.{method_faults, methods_faults}
-use Rattle.par_annotation_laws.specs.par_type_rules.Methods.{class_faults}
-use Rattle.par_annotation_laws.specs.par_type_rules.Program.{declaration_faults}
-use Rattle.par_annotation_laws.specs.par_type_rules.Program.{declarations_faults}
-use Rattle.par_annotation_laws.specs.par_type_rules.Program.{type_faults}
+use Rattle.par_type_rules.specs.par_scope.Names.{names_of}
+use Rattle.par_type_rules.specs.par_scope.Locals.{no_locals}
+use Rattle.par_type_rules.specs.par_scope.Home.{Home, class_named, result_written}
+use Rattle.par_type_rules.specs.Stmts as types
+use Rattle.par_type_rules.specs.Stmts.{throw_fault, braces_faults}
+use Rattle.par_type_rules.specs.Methods as rules
+use Rattle.par_type_rules.specs.Methods.{home_of, params_faults, throws_faults}
+use Rattle.par_type_rules.specs.Methods.{fields_faults, end_fault}
+use Rattle.par_type_rules.specs.Methods.{method_faults, methods_faults}
+use Rattle.par_type_rules.specs.Methods.{class_faults}
+use Rattle.par_type_rules.specs.Program.{declaration_faults}
+use Rattle.par_type_rules.specs.Program.{declarations_faults}
+use Rattle.par_type_rules.specs.Program.{type_faults}
 use Rattle.par_faults.specs.par_resolved.Numbers.{type_of, result_of}
 use Rattle.par_faults.specs.par_resolved.Resolved.{Resolved, resolved, field_infos, channel_info}
 use Rattle.par_faults.specs.par_resolved.Resolved.{param_info}
@@ -45,8 +45,8 @@ use Rattle.par_parts.specs.Statements.{in_braces}
 use Rattle.par_parts.specs.Written.{stmt_types}
 use Rattle.par_faults.specs.Faults.{all_faults}
 use Rattle.par_source_laws.specs.Order.{IsBare, IsInOrder}
-use Rattle.par_body_laws.specs.Makes.{IsOrdinary}
-use Rattle.par_body_laws.specs.Names.{IsException}
+use Rattle.par_program_laws.specs.Makes.{IsOrdinary}
+use Rattle.par_program_laws.specs.BodyNames.{IsException}
 use Rattle.par_typed_laws.specs.Signatures.{HasNoMembers, IsValueType, IsResultType, FieldHasType}
 use Rattle.par_typed_laws.specs.Signatures.{ParamHasType, ThrowsException, HasSignature}
 use Rattle.par_typed_laws.specs.Signatures.{HasSignatures, AreSigned}

@@ -3,46 +3,47 @@ use Rattle.std.proofs.Common.{◌≡◌, ℕ, ◌+◌, ◌≤◌, Bool, true, fa
 use Rattle.std.proofs.Common.{None, refl, ap, ◌∙◌, arith, cond}
 use Rattle.std.specs.Prelude.{nat_eq}
 use Rattle.std.proofs.lemmas.Bool.Decides.{nat_tests}
-use Rattle.par_body_laws.specs.par_tree.Plain.{Exp, Int, True, False, Null, This, New, Name, Field}
-use Rattle.par_body_laws.specs.par_tree.Plain.{Call, Neg}
-use Rattle.par_body_laws.specs.par_tree.Plain.{Not, Binary}
-use Rattle.par_body_laws.specs.par_tree.Plain.{Exps, NoExps, More, MayExp, Absent, Present}
-use Rattle.par_body_laws.specs.par_tree.Nodes as source
-use Rattle.par_flow_laws.specs.par_typed.declared.ty.Ty.TheVariants as ty
-use Rattle.par_flow_laws.specs.par_typed.declared.table.ChannelInfo.{ChannelInfo}
+use Rattle.par_program_laws.specs.par_tree.Plain.{Exp, Int, True, False, Null, This, New, Name}
+use Rattle.par_program_laws.specs.par_tree.Plain.{Field}
+use Rattle.par_program_laws.specs.par_tree.Plain.{Call, Neg}
+use Rattle.par_program_laws.specs.par_tree.Plain.{Not, Binary}
+use Rattle.par_program_laws.specs.par_tree.Plain.{Exps, NoExps, More, MayExp, Absent, Present}
+use Rattle.par_program_laws.specs.par_tree.Nodes as source
+use Rattle.par_program_laws.specs.par_typed.declared.ty.Ty.TheVariants as ty
+use Rattle.par_program_laws.specs.par_typed.declared.table.ChannelInfo.{ChannelInfo}
 use Rattle.par_refusals.specs.declared.refusal.Refusal.{Refusal}
-use Rattle.par_flow_laws.specs.par_typed.Plain as typed
-use Rattle.par_flow_laws.specs.par_typed.Plain.{Mark, TExp, MayTExp, TExps}
-use Rattle.par_flow_laws.specs.par_typed.Nodes.{nodes, may_nodes}
-use Rattle.par_annotation_laws.specs.par_scope.declared.members.Place.{Place}
-use Rattle.par_annotation_laws.specs.par_scope.declared.meaning.Receiver as meaning
-use Rattle.par_annotation_laws.specs.par_scope.declared.meaning.Receiver.TheVariants as receiver
-use Rattle.par_annotation_laws.specs.par_scope.declared.meaning.Callee.{Callee}
-use Rattle.par_annotation_laws.specs.par_scope.declared.meaning.Callee.TheVariants.{Unknown}
-use Rattle.par_annotation_laws.specs.par_scope.declared.meaning.Callee.TheVariants.{Channel}
-use Rattle.par_annotation_laws.specs.par_scope.declared.meaning.Callee.TheVariants.{Method}
-use Rattle.par_annotation_laws.specs.par_scope.Home.{Home}
-use Rattle.par_annotation_laws.specs.par_scope.Members.{field_at, channel_at, method_at}
-use Rattle.par_annotation_laws.specs.par_scope.Members.{field_is_static}
-use Rattle.par_annotation_laws.specs.par_scope.Members.{method_is_static, channel_arity, way_arity}
-use Rattle.par_annotation_laws.specs.par_scope.Members.{any_value}
-use Rattle.par_annotation_laws.specs.par_scope.Meaning.{selected, called, type_of, called_on}
-use Rattle.par_annotation_laws.specs.par_scope.Meaning.{receiver_of}
-use Rattle.par_annotation_laws.specs.par_scope.Meaning.{sure, arity}
-use Rattle.par_annotation_laws.specs.par_scope.Meaning.{param_at}
-use Rattle.par_annotation_laws.specs.par_type_rules.Exprs as types
-use Rattle.par_annotation_laws.specs.par_type_rules.Exprs.{expr_faults, receiver_faults}
-use Rattle.par_annotation_laws.specs.par_type_rules.Exprs.{args_faults, misfit}
-use Rattle.par_annotation_laws.specs.par_type_rules.Exprs.{count_fault}
-use Rattle.par_annotation_laws.specs.par_type_rules.Exprs.{member_fault, is_known, unless_number}
-use Rattle.par_annotation_laws.specs.par_type_rules.Exprs.{is_number}
-use Rattle.par_annotation_laws.specs.par_type_rules.Fits.{operand}
-use Rattle.par_annotation_laws.specs.Frames.{Frame, Var, var_named}
-use Rattle.par_annotation_laws.specs.Exprs.{own_this, own_field, name_typed, negation, number_of}
-use Rattle.par_annotation_laws.specs.Exprs.{selection, own_receiver, method_on}
-use Rattle.par_annotation_laws.specs.Exprs.{callee_on, first, by_way, through, call, typed_exp}
-use Rattle.par_annotation_laws.specs.Exprs.{typed_may}
-use Rattle.par_annotation_laws.specs.Exprs.{typed_args, mark_of}
+use Rattle.par_program_laws.specs.par_typed.Plain as typed
+use Rattle.par_program_laws.specs.par_typed.Plain.{Mark, TExp, MayTExp, TExps}
+use Rattle.par_program_laws.specs.par_typed.Nodes.{nodes, may_nodes}
+use Rattle.par_type_rules.specs.par_scope.declared.members.Place.{Place}
+use Rattle.par_type_rules.specs.par_scope.declared.meaning.Receiver as meaning
+use Rattle.par_type_rules.specs.par_scope.declared.meaning.Receiver.TheVariants as receiver
+use Rattle.par_type_rules.specs.par_scope.declared.meaning.Callee.{Callee}
+use Rattle.par_type_rules.specs.par_scope.declared.meaning.Callee.TheVariants.{Unknown}
+use Rattle.par_type_rules.specs.par_scope.declared.meaning.Callee.TheVariants.{Channel}
+use Rattle.par_type_rules.specs.par_scope.declared.meaning.Callee.TheVariants.{Method}
+use Rattle.par_type_rules.specs.par_scope.Home.{Home}
+use Rattle.par_type_rules.specs.par_scope.Members.{field_at, channel_at, method_at}
+use Rattle.par_type_rules.specs.par_scope.Members.{field_is_static}
+use Rattle.par_type_rules.specs.par_scope.Members.{method_is_static, channel_arity, way_arity}
+use Rattle.par_type_rules.specs.par_scope.Members.{any_value}
+use Rattle.par_type_rules.specs.par_scope.Meaning.{selected, called, type_of, called_on}
+use Rattle.par_type_rules.specs.par_scope.Meaning.{receiver_of}
+use Rattle.par_type_rules.specs.par_scope.Meaning.{sure, arity}
+use Rattle.par_type_rules.specs.par_scope.Meaning.{param_at}
+use Rattle.par_type_rules.specs.Exprs as types
+use Rattle.par_type_rules.specs.Exprs.{expr_faults, receiver_faults}
+use Rattle.par_type_rules.specs.Exprs.{args_faults, misfit}
+use Rattle.par_type_rules.specs.Exprs.{count_fault}
+use Rattle.par_type_rules.specs.Exprs.{member_fault, is_known, unless_number}
+use Rattle.par_type_rules.specs.Exprs.{is_number}
+use Rattle.par_type_rules.specs.Fits.{operand}
+use Rattle.par_type_rules.specs.Frames.{Frame, Var, var_named}
+use Rattle.par_type_rules.specs.TypedExprs.{own_this, own_field, name_typed, negation, number_of}
+use Rattle.par_type_rules.specs.TypedExprs.{selection, own_receiver, method_on}
+use Rattle.par_type_rules.specs.TypedExprs.{callee_on, first, by_way, through, call, typed_exp}
+use Rattle.par_type_rules.specs.TypedExprs.{typed_may}
+use Rattle.par_type_rules.specs.TypedExprs.{typed_args, mark_of}
 use Rattle.par_typed_laws.specs.Sizes.{is_this, size, receiver_size, args_size}
 use Rattle.par_typed_laws.proofs.Lists.{none_left, none_right}
 use Rattle.par_typed_laws.proofs.Unbroken.{is_kept}

@@ -4,32 +4,32 @@ use Rattle.std.proofs.Common.{subst, ◌∙◌, map, append_assoc}
 use Rattle.std.specs.Prelude.{flat_map, slice_get, nat_le}
 use Rattle.std.specs.List.{AllByRecursion}
 use Rattle.std.proofs.lemmas.Bool.{leb-true}
-use Rattle.par_body_laws.specs.par_tree.Nodes.{method_nodes}
-use Rattle.par_body_laws.specs.par_tree.Plain as plain
-use Rattle.par_body_laws.specs.par_tree.Plain.{Class, Method, Declaration, Source}
-use Rattle.par_flow_laws.specs.par_typed.declared.table.Table.{Table}
+use Rattle.par_program_laws.specs.par_tree.Nodes.{method_nodes}
+use Rattle.par_program_laws.specs.par_tree.Plain as plain
+use Rattle.par_program_laws.specs.par_tree.Plain.{Class, Method, Declaration, Source}
+use Rattle.par_program_laws.specs.par_typed.declared.table.Table.{Table}
 use Rattle.par_source_laws.specs.par_names.Declarations.{classes, builtins, declared_classes}
 use Rattle.par_source_laws.specs.par_names.Declarations.{classes_in}
 use Rattle.par_source_laws.specs.par_names.Program.{name_faults}
 use Rattle.par_faults.specs.declared.limit.TheConstants.{CLASSES, NODES, PARAMS, LOCALS}
 use Rattle.par_faults.specs.Limits.{over, method_limits, class_limits, one_too_many}
 use Rattle.par_faults.specs.Limits.{declared_limits, class_places, class_counts}
-use Rattle.par_annotation_laws.specs.par_scope.Own.{method_locals}
-use Rattle.par_annotation_laws.specs.par_scope.Names.{names_of}
-use Rattle.par_annotation_laws.specs.par_scope.Home.{class_named}
-use Rattle.par_annotation_laws.specs.par_type_rules.Methods.{home_of, fields_faults, method_faults}
-use Rattle.par_annotation_laws.specs.par_type_rules.Methods.{methods_faults}
-use Rattle.par_annotation_laws.specs.par_type_rules.Methods.{class_faults}
-use Rattle.par_annotation_laws.specs.par_type_rules.Program.{declaration_faults}
-use Rattle.par_annotation_laws.specs.par_type_rules.Program.{declarations_faults}
-use Rattle.par_annotation_laws.specs.par_type_rules.Program.{type_faults}
+use Rattle.par_type_rules.specs.par_scope.Own.{method_locals}
+use Rattle.par_type_rules.specs.par_scope.Names.{names_of}
+use Rattle.par_type_rules.specs.par_scope.Home.{class_named}
+use Rattle.par_type_rules.specs.Methods.{home_of, fields_faults, method_faults}
+use Rattle.par_type_rules.specs.Methods.{methods_faults}
+use Rattle.par_type_rules.specs.Methods.{class_faults}
+use Rattle.par_type_rules.specs.Program.{declaration_faults}
+use Rattle.par_type_rules.specs.Program.{declarations_faults}
+use Rattle.par_type_rules.specs.Program.{type_faults}
 use Rattle.par_faults.specs.par_resolved.Resolved.{Resolved, resolved, class_info, method_info}
 use Rattle.par_faults.specs.par_resolved.Resolved.{table_of}
-use Rattle.par_annotation_laws.specs.Stmts.{Written}
-use Rattle.par_annotation_laws.specs.Bodies.{typed_methods, typed_class, typed_declaration}
-use Rattle.par_annotation_laws.specs.Bodies.{typed_declarations}
+use Rattle.par_type_rules.specs.TypedStmts.{Written}
+use Rattle.par_type_rules.specs.TypedBodies.{typed_methods, typed_class, typed_declaration}
+use Rattle.par_type_rules.specs.TypedBodies.{typed_declarations}
 use Rattle.par_faults.specs.Faults.{all_faults}
-use Rattle.par_flow_laws.specs.par_typed.Members.{method_at}
+use Rattle.par_program_laws.specs.par_typed.Members.{method_at}
 use Rattle.par_typed_laws.specs.Sizes.{IsSmallBody}
 use Rattle.par_source_laws.specs.Order.{Ascend, IsInOrder}
 use Rattle.par_typed_laws.specs.Typed.{written_in, bodies_of}

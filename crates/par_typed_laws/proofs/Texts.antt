@@ -8,16 +8,16 @@ use Rattle.std.specs.Str.{bytes_eq}
 use Rattle.std.proofs.lemmas.List.{length-map}
 use Rattle.std.proofs.lemmas.List.Quantifiers.{position-Some}
 use Rattle.std.proofs.lemmas.Slice.Eq.{bytes_eq-Decides}
-use Rattle.par_body_laws.specs.par_tree.declared.types.TypeTree.{TypeTree}
-use Rattle.par_body_laws.specs.par_tree.declared.types.TypeTree.TheVariants as type
-use Rattle.par_body_laws.specs.par_tree.declared.policy.PolicyExpr.{PolicyExpr}
-use Rattle.par_body_laws.specs.par_tree.declared.decl.FieldDecl.{FieldDecl}
-use Rattle.par_body_laws.specs.par_tree.declared.decl.ChannelDecl.{ChannelDecl}
-use Rattle.par_body_laws.specs.par_tree.declared.decl.ParamDecl.{ParamDecl}
-use Rattle.par_body_laws.specs.par_tree.Plain as plain
-use Rattle.par_body_laws.specs.par_tree.Plain.{Class, Method, Declaration, Source}
-use Rattle.par_flow_laws.specs.par_typed.declared.table.ClassInfo.{ClassInfo}
-use Rattle.par_flow_laws.specs.par_typed.declared.table.Table.{Table}
+use Rattle.par_program_laws.specs.par_tree.declared.types.TypeTree.{TypeTree}
+use Rattle.par_program_laws.specs.par_tree.declared.types.TypeTree.TheVariants as type
+use Rattle.par_program_laws.specs.par_tree.declared.policy.PolicyExpr.{PolicyExpr}
+use Rattle.par_program_laws.specs.par_tree.declared.decl.FieldDecl.{FieldDecl}
+use Rattle.par_program_laws.specs.par_tree.declared.decl.ChannelDecl.{ChannelDecl}
+use Rattle.par_program_laws.specs.par_tree.declared.decl.ParamDecl.{ParamDecl}
+use Rattle.par_program_laws.specs.par_tree.Plain as plain
+use Rattle.par_program_laws.specs.par_tree.Plain.{Class, Method, Declaration, Source}
+use Rattle.par_program_laws.specs.par_typed.declared.table.ClassInfo.{ClassInfo}
+use Rattle.par_program_laws.specs.par_typed.declared.table.Table.{Table}
 use Rattle.par_source_laws.specs.par_names.Declarations.{classes, classes_in, declared_classes}
 use Rattle.par_source_laws.specs.par_names.Declarations.{doubles}
 use Rattle.par_source_laws.specs.par_names.Members.{callee_ids}

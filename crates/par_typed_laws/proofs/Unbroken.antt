@@ -7,11 +7,11 @@ use Rattle.std.specs.Str.{bytes_eq}
 use Rattle.std.proofs.lemmas.List.{length-map}
 use Rattle.std.proofs.lemmas.Bool.Decides.{nat_tests}
 use Rattle.par_index.specs.Texts.{has}
-use Rattle.par_body_laws.specs.par_tree.declared.ident.Ident.{Ident}
-use Rattle.par_body_laws.specs.par_tree.declared.policy.LockTree.{LockTree}
-use Rattle.par_body_laws.specs.par_tree.declared.decl.LockDecl.{LockDecl}
-use Rattle.par_body_laws.specs.par_tree.Plain as plain
-use Rattle.par_body_laws.specs.par_tree.Plain.{Class, Method, Declaration, Source}
+use Rattle.par_program_laws.specs.par_tree.declared.ident.Ident.{Ident}
+use Rattle.par_program_laws.specs.par_tree.declared.policy.LockTree.{LockTree}
+use Rattle.par_program_laws.specs.par_tree.declared.decl.LockDecl.{LockDecl}
+use Rattle.par_program_laws.specs.par_tree.Plain as plain
+use Rattle.par_program_laws.specs.par_tree.Plain.{Class, Method, Declaration, Source}
 use Rattle.par_refusals.specs.declared.refusal.Refusal.{Refusal}
 use Rattle.par_refusals.specs.First.{when, in_passes, first_of}
 use Rattle.par_refusals.proofs.First.{first_of_none}

@@ -1,6 +1,6 @@
 -- The laws, of whole sources.
 use Rattle.std.proofs.Common.{◌≤◌, refl, sym, subst, arith}
-use Rattle.par_flow_laws.specs.par_lexer.declared.cut.TheConstants.{LONGEST_SOURCE}
+use Rattle.par_program_laws.specs.par_lexer.declared.cut.TheConstants.{LONGEST_SOURCE}
 use Rattle.par_faults.specs.par_resolved.Resolved.{table_of}
 use Rattle.par_typed_laws.specs.Laws.{TablesAreInRange, BodiesHaveMethods, SuchBodiesAreOrderly}
 use Rattle.par_typed_laws.specs.Laws.{BodiesAreOrderly, ClassesAndMembersAreNamed, BodiesAreSmall}
@@ -11,7 +11,7 @@ use Rattle.par_typed_laws.specs.Laws.{TablesHaveMain, MethodsHaveBodies, Sources
 use Rattle.par_typed_laws.specs.Laws.{BodiesHaveBlocks, MethodsTakeFew, ClassesHaveFewMembers}
 use Rattle.par_typed_laws.specs.Laws.{TablesHaveFewClasses}
 use Rattle.par_typed_laws.specs.Orderly.{HasMethod}
-use Rattle.par_flow_laws.specs.Orderly.{IsOrderlyBody}
+use Rattle.par_program_laws.specs.Orderly.{IsOrderlyBody}
 use Rattle.par_typed_laws.specs.Typed.{bodies_of, written_in}
 use Rattle.par_typed_laws.proofs.Lists.{each_is}
 use Rattle.par_typed_laws.proofs.NamedStatements.{declarations_named}

@@ -1,13 +1,13 @@
 -- The body of each catch is a block, as the grammar has it.
 use Rattle.std.specs.Prelude.{◌≡◌, Bool, true, false}
-use Rattle.par_flow_laws.specs.par_typed.Plain.{TSta, Block, If, While, Try, Return, Break}
-use Rattle.par_flow_laws.specs.par_typed.Plain.{Continue}
-use Rattle.par_flow_laws.specs.par_typed.Plain.{Throw, Open}
-use Rattle.par_flow_laws.specs.par_typed.Plain.{Close, SetLocal, SetStatic, SetField, Eval, When}
-use Rattle.par_flow_laws.specs.par_typed.Plain.{MayTSta, NoElse, Otherwise, TStas, End, Then}
-use Rattle.par_flow_laws.specs.par_typed.Plain.{TCatches}
-use Rattle.par_flow_laws.specs.par_typed.Plain.{NoCatch}
-use Rattle.par_flow_laws.specs.par_typed.Plain.{Catch}
+use Rattle.par_program_laws.specs.par_typed.Plain.{TSta, Block, If, While, Try, Return, Break}
+use Rattle.par_program_laws.specs.par_typed.Plain.{Continue}
+use Rattle.par_program_laws.specs.par_typed.Plain.{Throw, Open}
+use Rattle.par_program_laws.specs.par_typed.Plain.{Close, SetLocal, SetStatic, SetField, Eval, When}
+use Rattle.par_program_laws.specs.par_typed.Plain.{MayTSta, NoElse, Otherwise, TStas, End, Then}
+use Rattle.par_program_laws.specs.par_typed.Plain.{TCatches}
+use Rattle.par_program_laws.specs.par_typed.Plain.{NoCatch}
+use Rattle.par_program_laws.specs.par_typed.Plain.{Catch}
 
 abbrev pub is_block : TSta → Bool
 is_block (Block ss at p) = true

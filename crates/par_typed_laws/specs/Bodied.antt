@@ -1,9 +1,9 @@
 -- Each method of a table has one body.
 use Rattle.std.specs.Prelude.{◌≡◌, ℕ, ◌+◌, List, [], ◌∷◌, ◌++◌, map, length}
 use Rattle.std.specs.List.{range_with_len}
-use Rattle.par_flow_laws.specs.par_typed.declared.table.ClassInfo.{ClassInfo}
-use Rattle.par_flow_laws.specs.par_typed.declared.table.Table.{Table}
-use Rattle.par_flow_laws.specs.par_typed.Plain.{Body}
+use Rattle.par_program_laws.specs.par_typed.declared.table.ClassInfo.{ClassInfo}
+use Rattle.par_program_laws.specs.par_typed.declared.table.Table.{Table}
+use Rattle.par_program_laws.specs.par_typed.Plain.{Body}
 
 -- a method by the number of its class and its own number there
 abbrev pub Spot : Type 0

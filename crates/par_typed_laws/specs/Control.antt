@@ -1,19 +1,19 @@
 -- Control in typed bodies: each statement is reached, a break and a continue stand in a loop, and
 -- nothing comes to the end of a body that has a result.
 use Rattle.std.specs.Prelude.{◌≡◌, Bool, true, false, Some}
-use Rattle.par_flow_laws.specs.par_typed.declared.table.MethodInfo.{MethodInfo}
-use Rattle.par_flow_laws.specs.par_typed.declared.table.Table.{Table}
-use Rattle.par_flow_laws.specs.par_typed.Plain.{TSta, Block, If, While, Try, Return, Break}
-use Rattle.par_flow_laws.specs.par_typed.Plain.{Continue}
-use Rattle.par_flow_laws.specs.par_typed.Plain.{Throw, Open}
-use Rattle.par_flow_laws.specs.par_typed.Plain.{Close, SetLocal, SetStatic, SetField, Eval, When}
-use Rattle.par_flow_laws.specs.par_typed.Plain.{MayTSta, NoElse}
-use Rattle.par_flow_laws.specs.par_typed.Plain.{Otherwise, TStas, End, Then, TCatches, NoCatch}
-use Rattle.par_flow_laws.specs.par_typed.Plain.{Catch}
-use Rattle.par_flow_laws.specs.par_typed.Plain.{Body}
-use Rattle.par_body_laws.specs.par_completes.Typed.{completes}
-use Rattle.par_flow_laws.specs.par_typed.Members.{method_at}
-use Rattle.par_body_laws.specs.Types.{IsEnded}
+use Rattle.par_program_laws.specs.par_typed.declared.table.MethodInfo.{MethodInfo}
+use Rattle.par_program_laws.specs.par_typed.declared.table.Table.{Table}
+use Rattle.par_program_laws.specs.par_typed.Plain.{TSta, Block, If, While, Try, Return, Break}
+use Rattle.par_program_laws.specs.par_typed.Plain.{Continue}
+use Rattle.par_program_laws.specs.par_typed.Plain.{Throw, Open}
+use Rattle.par_program_laws.specs.par_typed.Plain.{Close, SetLocal, SetStatic, SetField, Eval, When}
+use Rattle.par_program_laws.specs.par_typed.Plain.{MayTSta, NoElse}
+use Rattle.par_program_laws.specs.par_typed.Plain.{Otherwise, TStas, End, Then, TCatches, NoCatch}
+use Rattle.par_program_laws.specs.par_typed.Plain.{Catch}
+use Rattle.par_program_laws.specs.par_typed.Plain.{Body}
+use Rattle.par_program_laws.specs.par_completes.Typed.{completes}
+use Rattle.par_program_laws.specs.par_typed.Members.{method_at}
+use Rattle.par_program_laws.specs.Types.{IsEnded}
 
 -- all that stands in a statement, in a loop or in none
 unfoldable mutual

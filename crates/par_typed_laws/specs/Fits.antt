@@ -2,31 +2,32 @@
 -- class is said where members are named.
 use Rattle.std.specs.Prelude.{◌≡◌, ℕ, Bool, true, false, List, [], ◌∷◌, Option}
 use Rattle.std.specs.Prelude.{Some, None, slice_get}
-use Rattle.par_flow_laws.specs.par_typed.declared.ty.Ty.{Ty}
-use Rattle.par_flow_laws.specs.par_typed.declared.ty.Ty.TheVariants as ty
-use Rattle.par_flow_laws.specs.par_typed.declared.table.FieldInfo.{FieldInfo}
-use Rattle.par_flow_laws.specs.par_typed.declared.table.ParamInfo.{ParamInfo}
-use Rattle.par_flow_laws.specs.par_typed.declared.table.MethodInfo.{MethodInfo}
-use Rattle.par_flow_laws.specs.par_typed.declared.table.Table.{Table}
-use Rattle.par_flow_laws.specs.par_typed.Plain.{Mark, mark}
-use Rattle.par_flow_laws.specs.par_typed.Plain.{TExp, Int, Boolean, Null, This, New, Local, Static}
-use Rattle.par_flow_laws.specs.par_typed.Plain.{Field, Input}
-use Rattle.par_flow_laws.specs.par_typed.Plain.{Output, Call, Neg, Not, Binary, MayTExp, Absent}
-use Rattle.par_flow_laws.specs.par_typed.Plain.{Present}
-use Rattle.par_flow_laws.specs.par_typed.Plain.{TExps, NoExps, More}
-use Rattle.par_flow_laws.specs.par_typed.Plain.{TSta, Block, If, While, Try, Return, Break}
-use Rattle.par_flow_laws.specs.par_typed.Plain.{Continue}
-use Rattle.par_flow_laws.specs.par_typed.Plain.{Throw, Open}
-use Rattle.par_flow_laws.specs.par_typed.Plain.{Close, SetLocal, SetStatic, SetField, Eval, When}
-use Rattle.par_flow_laws.specs.par_typed.Plain.{MayTSta, NoElse}
-use Rattle.par_flow_laws.specs.par_typed.Plain.{Otherwise, TStas, End, Then, TCatches, NoCatch}
-use Rattle.par_flow_laws.specs.par_typed.Plain.{Catch}
-use Rattle.par_flow_laws.specs.par_typed.Plain.{Body}
-use Rattle.par_annotation_laws.specs.par_scope.Meaning.{op_type}
-use Rattle.par_annotation_laws.specs.par_type_rules.Fits.{operand}
-use Rattle.par_flow_laws.specs.par_typed.Members.{method_at, field_at}
-use Rattle.par_body_laws.specs.Locals.{arriving, arriving_sure, BeginsWith}
-use Rattle.par_body_laws.specs.Types.{IsMarked, Is}
+use Rattle.par_program_laws.specs.par_typed.declared.ty.Ty.{Ty}
+use Rattle.par_program_laws.specs.par_typed.declared.ty.Ty.TheVariants as ty
+use Rattle.par_program_laws.specs.par_typed.declared.table.FieldInfo.{FieldInfo}
+use Rattle.par_program_laws.specs.par_typed.declared.table.ParamInfo.{ParamInfo}
+use Rattle.par_program_laws.specs.par_typed.declared.table.MethodInfo.{MethodInfo}
+use Rattle.par_program_laws.specs.par_typed.declared.table.Table.{Table}
+use Rattle.par_program_laws.specs.par_typed.Plain.{Mark, mark}
+use Rattle.par_program_laws.specs.par_typed.Plain.{TExp, Int, Boolean, Null, This, New, Local}
+use Rattle.par_program_laws.specs.par_typed.Plain.{Static}
+use Rattle.par_program_laws.specs.par_typed.Plain.{Field, Input}
+use Rattle.par_program_laws.specs.par_typed.Plain.{Output, Call, Neg, Not, Binary, MayTExp, Absent}
+use Rattle.par_program_laws.specs.par_typed.Plain.{Present}
+use Rattle.par_program_laws.specs.par_typed.Plain.{TExps, NoExps, More}
+use Rattle.par_program_laws.specs.par_typed.Plain.{TSta, Block, If, While, Try, Return, Break}
+use Rattle.par_program_laws.specs.par_typed.Plain.{Continue}
+use Rattle.par_program_laws.specs.par_typed.Plain.{Throw, Open}
+use Rattle.par_program_laws.specs.par_typed.Plain.{Close, SetLocal, SetStatic, SetField, Eval, When}
+use Rattle.par_program_laws.specs.par_typed.Plain.{MayTSta, NoElse}
+use Rattle.par_program_laws.specs.par_typed.Plain.{Otherwise, TStas, End, Then, TCatches, NoCatch}
+use Rattle.par_program_laws.specs.par_typed.Plain.{Catch}
+use Rattle.par_program_laws.specs.par_typed.Plain.{Body}
+use Rattle.par_type_rules.specs.par_scope.Meaning.{op_type}
+use Rattle.par_type_rules.specs.Fits.{operand}
+use Rattle.par_program_laws.specs.par_typed.Members.{method_at, field_at}
+use Rattle.par_program_laws.specs.Locals.{arriving, arriving_sure, BeginsWith}
+use Rattle.par_program_laws.specs.Types.{IsMarked, Is}
 
 -- ---- one type and another
 

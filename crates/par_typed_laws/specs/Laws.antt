@@ -1,20 +1,20 @@
 -- The laws of the tables and bodies of sources that break no rule on names and exceed no limit.
 use Rattle.std.specs.Prelude.{◌≡◌, ◌≤◌, []}
 use Rattle.std.specs.List.{AllByRecursion}
-use Rattle.par_flow_laws.specs.par_lexer.declared.cut.TheConstants.{LONGEST_SOURCE}
-use Rattle.par_body_laws.specs.par_tree.Plain.{Source}
-use Rattle.par_flow_laws.specs.par_typed.declared.table.Table.{Table}
-use Rattle.par_flow_laws.specs.par_typed.Plain.{Body}
+use Rattle.par_program_laws.specs.par_lexer.declared.cut.TheConstants.{LONGEST_SOURCE}
+use Rattle.par_program_laws.specs.par_tree.Plain.{Source}
+use Rattle.par_program_laws.specs.par_typed.declared.table.Table.{Table}
+use Rattle.par_program_laws.specs.par_typed.Plain.{Body}
 use Rattle.par_faults.specs.par_resolved.Resolved.{table_of}
-use Rattle.par_annotation_laws.specs.par_type_rules.Program.{type_faults}
+use Rattle.par_type_rules.specs.Program.{type_faults}
 use Rattle.par_faults.specs.Faults.{all_faults}
-use Rattle.par_body_laws.specs.Proper.{IsProper}
+use Rattle.par_program_laws.specs.Proper.{IsProper}
 use Rattle.par_typed_laws.specs.Tables.{IsInRange}
 use Rattle.par_typed_laws.specs.Orderly.{HasMethod}
-use Rattle.par_flow_laws.specs.Orderly.{IsOrderlyBody}
+use Rattle.par_program_laws.specs.Orderly.{IsOrderlyBody}
 use Rattle.par_typed_laws.specs.WellTyped.{NamesMembers, CatchesInBlocks, IsWellTyped}
 use Rattle.par_typed_laws.specs.Limits.{HasFewParams, HasFewMembers, HasFewClasses}
-use Rattle.par_body_laws.specs.Makes.{MakesObjects}
+use Rattle.par_program_laws.specs.Makes.{MakesObjects}
 use Rattle.par_typed_laws.specs.Fits.{ValuesFit}
 use Rattle.par_typed_laws.specs.Control.{IsControlled}
 use Rattle.par_typed_laws.specs.Signatures.{HasBuiltIns, AreSigned}

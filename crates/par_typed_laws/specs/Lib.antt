@@ -14,8 +14,8 @@ pub mod Limits
 pub mod WellTyped
 pub mod Typed
 pub mod Laws
-pub use Rattle.par_body_laws.specs as par_body_laws
-pub use Rattle.par_body_laws.specs.par_completes as par_completes
+pub use Rattle.par_program_laws.specs as par_program_laws
+pub use Rattle.par_program_laws.specs.par_completes as par_completes
 pub use Rattle.par_faults.specs as par_faults
 pub use Rattle.par_faults.specs.par_resolved as par_resolved
-pub use Rattle.par_annotation_laws.specs.par_type_rules as par_type_rules
+pub use Rattle.par_type_rules.specs as par_type_rules

@@ -1,13 +1,13 @@
 -- Bodies over a table, as the rules of flow need them.
 use Rattle.std.specs.Prelude.{◌≡◌, Some, length}
-use Rattle.par_flow_laws.specs.par_typed.declared.table.MethodInfo.{MethodInfo}
-use Rattle.par_flow_laws.specs.par_typed.declared.table.Table.{Table}
-use Rattle.par_flow_laws.specs.par_typed.Plain.{Body}
-use Rattle.par_flow_laws.specs.par_typed.Nodes.{stmt_nodes}
-use Rattle.par_annotation_laws.specs.Points.{count_from, stmt_points}
+use Rattle.par_program_laws.specs.par_typed.declared.table.MethodInfo.{MethodInfo}
+use Rattle.par_program_laws.specs.par_typed.declared.table.Table.{Table}
+use Rattle.par_program_laws.specs.par_typed.Plain.{Body}
+use Rattle.par_program_laws.specs.par_typed.Nodes.{stmt_nodes}
+use Rattle.par_type_rules.specs.Points.{count_from, stmt_points}
 use Rattle.par_typed_laws.specs.Numbers.{StaInRange}
-use Rattle.par_flow_laws.specs.par_typed.Members.{method_at}
-use Rattle.par_body_laws.specs.Locals.{set_by_call}
+use Rattle.par_program_laws.specs.par_typed.Members.{method_at}
+use Rattle.par_program_laws.specs.Locals.{set_by_call}
 use Rattle.par_typed_laws.specs.SetFirst.{SetsFirst}
 
 -- the body of this method: its points are the numbers below the count of its nodes, each once, in

@@ -1,13 +1,13 @@
 -- Locals are set before they are read: what a block sets is not read behind it.
 use Rattle.std.specs.Prelude.{ℕ, List}
-use Rattle.par_flow_laws.specs.par_typed.Plain.{TSta, Block, If, While, Try, Return, Break}
-use Rattle.par_flow_laws.specs.par_typed.Plain.{Continue}
-use Rattle.par_flow_laws.specs.par_typed.Plain.{Throw, Open}
-use Rattle.par_flow_laws.specs.par_typed.Plain.{Close, SetLocal, SetStatic, SetField, Eval, When}
-use Rattle.par_flow_laws.specs.par_typed.Plain.{MayTSta, NoElse}
-use Rattle.par_flow_laws.specs.par_typed.Plain.{Otherwise, TStas, End, Then, TCatches, NoCatch}
-use Rattle.par_flow_laws.specs.par_typed.Plain.{Catch}
-use Rattle.par_body_laws.specs.Locals.{IsSet, behind}
+use Rattle.par_program_laws.specs.par_typed.Plain.{TSta, Block, If, While, Try, Return, Break}
+use Rattle.par_program_laws.specs.par_typed.Plain.{Continue}
+use Rattle.par_program_laws.specs.par_typed.Plain.{Throw, Open}
+use Rattle.par_program_laws.specs.par_typed.Plain.{Close, SetLocal, SetStatic, SetField, Eval, When}
+use Rattle.par_program_laws.specs.par_typed.Plain.{MayTSta, NoElse}
+use Rattle.par_program_laws.specs.par_typed.Plain.{Otherwise, TStas, End, Then, TCatches, NoCatch}
+use Rattle.par_program_laws.specs.par_typed.Plain.{Catch}
+use Rattle.par_program_laws.specs.Locals.{IsSet, behind}
 use Rattle.par_typed_laws.specs.Numbers.{ExpReads, MayExpRead}
 
 unfoldable mutual

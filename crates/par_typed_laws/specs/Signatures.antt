@@ -1,16 +1,16 @@
 -- The declarations of a table have the types and the exceptions that they may have.
 use Rattle.std.specs.Prelude.{◌≡◌, ℕ, Bool, true, List, [], ◌∷◌, map, take, slice_get, codes}
 use Rattle.std.specs.List.{AllByRecursion}
-use Rattle.par_flow_laws.specs.par_typed.declared.ty.Ty.{Ty}
-use Rattle.par_flow_laws.specs.par_typed.declared.ty.Ty.TheVariants as ty
-use Rattle.par_flow_laws.specs.par_typed.declared.table.FieldInfo.{FieldInfo}
-use Rattle.par_flow_laws.specs.par_typed.declared.table.ParamInfo.{ParamInfo}
-use Rattle.par_flow_laws.specs.par_typed.declared.table.ThrowInfo.{ThrowInfo}
-use Rattle.par_flow_laws.specs.par_typed.declared.table.MethodInfo.{MethodInfo}
-use Rattle.par_flow_laws.specs.par_typed.declared.table.ClassInfo.{ClassInfo}
-use Rattle.par_flow_laws.specs.par_typed.declared.table.Table.{Table}
-use Rattle.par_body_laws.specs.Names.{IsException}
-use Rattle.par_body_laws.specs.Makes.{IsOrdinary}
+use Rattle.par_program_laws.specs.par_typed.declared.ty.Ty.{Ty}
+use Rattle.par_program_laws.specs.par_typed.declared.ty.Ty.TheVariants as ty
+use Rattle.par_program_laws.specs.par_typed.declared.table.FieldInfo.{FieldInfo}
+use Rattle.par_program_laws.specs.par_typed.declared.table.ParamInfo.{ParamInfo}
+use Rattle.par_program_laws.specs.par_typed.declared.table.ThrowInfo.{ThrowInfo}
+use Rattle.par_program_laws.specs.par_typed.declared.table.MethodInfo.{MethodInfo}
+use Rattle.par_program_laws.specs.par_typed.declared.table.ClassInfo.{ClassInfo}
+use Rattle.par_program_laws.specs.par_typed.declared.table.Table.{Table}
+use Rattle.par_program_laws.specs.BodyNames.{IsException}
+use Rattle.par_program_laws.specs.Makes.{IsOrdinary}
 use Rattle.par_typed_laws.specs.Texts.{BUILT_IN}
 
 -- the name of a class, and whether it is an exception class

@@ -1,21 +1,22 @@
 -- Bodies within the limits.
 use Rattle.std.specs.Prelude.{◌≡◌, ℕ, ◌+◌, ◌≤◌, cond, Bool, true, false, Some}
-use Rattle.par_flow_laws.specs.par_typed.declared.table.MethodInfo.{MethodInfo}
-use Rattle.par_flow_laws.specs.par_typed.declared.table.Table.{Table}
-use Rattle.par_flow_laws.specs.par_typed.Plain.{TExp, Int, Boolean, Null, This, New, Local, Static}
-use Rattle.par_flow_laws.specs.par_typed.Plain.{Field, Input}
-use Rattle.par_flow_laws.specs.par_typed.Plain.{Output, Call, Neg, Not, Binary, MayTExp, Absent}
-use Rattle.par_flow_laws.specs.par_typed.Plain.{Present}
-use Rattle.par_flow_laws.specs.par_typed.Plain.{TExps, NoExps, More}
-use Rattle.par_flow_laws.specs.par_typed.Plain.{TSta, Block, If, While, Try, Return, Break}
-use Rattle.par_flow_laws.specs.par_typed.Plain.{Continue}
-use Rattle.par_flow_laws.specs.par_typed.Plain.{Throw, Open}
-use Rattle.par_flow_laws.specs.par_typed.Plain.{Close, SetLocal, SetStatic, SetField, Eval, When}
-use Rattle.par_flow_laws.specs.par_typed.Plain.{MayTSta, NoElse}
-use Rattle.par_flow_laws.specs.par_typed.Plain.{Otherwise, TStas, End, Then, TCatches, NoCatch}
-use Rattle.par_flow_laws.specs.par_typed.Plain.{Catch}
-use Rattle.par_flow_laws.specs.par_typed.Plain.{Body}
-use Rattle.par_flow_laws.specs.par_typed.Members.{method_at}
+use Rattle.par_program_laws.specs.par_typed.declared.table.MethodInfo.{MethodInfo}
+use Rattle.par_program_laws.specs.par_typed.declared.table.Table.{Table}
+use Rattle.par_program_laws.specs.par_typed.Plain.{TExp, Int, Boolean, Null, This, New, Local}
+use Rattle.par_program_laws.specs.par_typed.Plain.{Static}
+use Rattle.par_program_laws.specs.par_typed.Plain.{Field, Input}
+use Rattle.par_program_laws.specs.par_typed.Plain.{Output, Call, Neg, Not, Binary, MayTExp, Absent}
+use Rattle.par_program_laws.specs.par_typed.Plain.{Present}
+use Rattle.par_program_laws.specs.par_typed.Plain.{TExps, NoExps, More}
+use Rattle.par_program_laws.specs.par_typed.Plain.{TSta, Block, If, While, Try, Return, Break}
+use Rattle.par_program_laws.specs.par_typed.Plain.{Continue}
+use Rattle.par_program_laws.specs.par_typed.Plain.{Throw, Open}
+use Rattle.par_program_laws.specs.par_typed.Plain.{Close, SetLocal, SetStatic, SetField, Eval, When}
+use Rattle.par_program_laws.specs.par_typed.Plain.{MayTSta, NoElse}
+use Rattle.par_program_laws.specs.par_typed.Plain.{Otherwise, TStas, End, Then, TCatches, NoCatch}
+use Rattle.par_program_laws.specs.par_typed.Plain.{Catch}
+use Rattle.par_program_laws.specs.par_typed.Plain.{Body}
+use Rattle.par_program_laws.specs.par_typed.Members.{method_at}
 
 -- ---- the nodes of a body, where a `this` that is a receiver is not counted
 

@@ -1,18 +1,18 @@
 -- The numbers in a table are those of its policies, its ground locks and its classes.
 use Rattle.std.specs.Prelude.{ℕ, ◌<◌, ◌≤◌, List, length, Option, Some, None}
 use Rattle.std.specs.List.{AllByRecursion}
-use Rattle.par_flow_laws.specs.par_typed.declared.ty.Ty.{Ty}
-use Rattle.par_flow_laws.specs.par_typed.declared.ty.Ty.TheVariants as ty
-use Rattle.par_flow_laws.specs.par_typed.declared.table.GroundLock.{GroundLock}
-use Rattle.par_flow_laws.specs.par_typed.declared.table.FieldInfo.{FieldInfo}
-use Rattle.par_flow_laws.specs.par_typed.declared.table.ChannelInfo.{ChannelInfo}
-use Rattle.par_flow_laws.specs.par_typed.declared.table.ParamInfo.{ParamInfo}
-use Rattle.par_flow_laws.specs.par_typed.declared.table.ThrowInfo.{ThrowInfo}
-use Rattle.par_flow_laws.specs.par_typed.declared.table.MethodInfo.{MethodInfo}
-use Rattle.par_flow_laws.specs.par_typed.declared.table.ClassInfo.{ClassInfo}
-use Rattle.par_flow_laws.specs.par_typed.declared.table.Table.{Table}
-use Rattle.par_flow_laws.specs.par_typed.Members.{IsClass}
-use Rattle.par_body_laws.specs.Locals.{arrivals}
+use Rattle.par_program_laws.specs.par_typed.declared.ty.Ty.{Ty}
+use Rattle.par_program_laws.specs.par_typed.declared.ty.Ty.TheVariants as ty
+use Rattle.par_program_laws.specs.par_typed.declared.table.GroundLock.{GroundLock}
+use Rattle.par_program_laws.specs.par_typed.declared.table.FieldInfo.{FieldInfo}
+use Rattle.par_program_laws.specs.par_typed.declared.table.ChannelInfo.{ChannelInfo}
+use Rattle.par_program_laws.specs.par_typed.declared.table.ParamInfo.{ParamInfo}
+use Rattle.par_program_laws.specs.par_typed.declared.table.ThrowInfo.{ThrowInfo}
+use Rattle.par_program_laws.specs.par_typed.declared.table.MethodInfo.{MethodInfo}
+use Rattle.par_program_laws.specs.par_typed.declared.table.ClassInfo.{ClassInfo}
+use Rattle.par_program_laws.specs.par_typed.declared.table.Table.{Table}
+use Rattle.par_program_laws.specs.par_typed.Members.{IsClass}
+use Rattle.par_program_laws.specs.Locals.{arrivals}
 
 -- how many policies a table has at most, and how many ground locks
 abbrev pub MOST : ℕ

@@ -1,15 +1,15 @@
 -- Well-typed programs.
 use Rattle.std.specs.Prelude.{◌≤◌, List}
 use Rattle.std.specs.List.{AllByRecursion}
-use Rattle.par_flow_laws.specs.par_lexer.declared.cut.TheConstants.{LONGEST_SOURCE}
-use Rattle.par_flow_laws.specs.par_typed.declared.table.Table.{Table}
-use Rattle.par_flow_laws.specs.par_typed.Plain.{Body}
-use Rattle.par_body_laws.specs.Proper.{IsProper}
+use Rattle.par_program_laws.specs.par_lexer.declared.cut.TheConstants.{LONGEST_SOURCE}
+use Rattle.par_program_laws.specs.par_typed.declared.table.Table.{Table}
+use Rattle.par_program_laws.specs.par_typed.Plain.{Body}
+use Rattle.par_program_laws.specs.Proper.{IsProper}
 use Rattle.par_typed_laws.specs.Tables.{IsInRange}
 use Rattle.par_typed_laws.specs.Orderly.{HasMethod}
-use Rattle.par_flow_laws.specs.Orderly.{IsOrderlyBody}
-use Rattle.par_body_laws.specs.Names.{StaNames}
-use Rattle.par_body_laws.specs.Makes.{MakesObjects}
+use Rattle.par_program_laws.specs.Orderly.{IsOrderlyBody}
+use Rattle.par_program_laws.specs.BodyNames.{StaNames}
+use Rattle.par_program_laws.specs.Makes.{MakesObjects}
 use Rattle.par_typed_laws.specs.Fits.{ValuesFit}
 use Rattle.par_typed_laws.specs.Control.{IsControlled}
 use Rattle.par_typed_laws.specs.Signatures.{HasBuiltIns, AreSigned}

@@ -2,10 +2,10 @@
 
 ghost use Rattle.std.specs.Prelude.{IfOk};
 ghost use Rattle.std.specs.List.{AllByRecursion};
-ghost use Rattle.par_table_laws.specs.Declared.{IsWellDeclared};
+ghost use Rattle.par_program_laws.specs.WellDeclared.{IsWellDeclared};
 ghost use Rattle.par_typed.specs.Shown.{bodies};
 ghost use Rattle.par_typed_laws.specs.WellTyped.{IsWellTyped};
-ghost use Rattle.par_flow_laws.specs.Orderly.{IsOrderlyBody};
+ghost use Rattle.par_program_laws.specs.Orderly.{IsOrderlyBody};
 
 use par_lexer::lex;
 use par_parser::parse;

@@ -8,7 +8,7 @@ use Rattle.par_tree.specs.Plain.{Catch, NoCatch, Handler, On, Local}
 use Rattle.par_typed.specs.declared.ty.Ty.TheVariants as ty
 use Rattle.par_refusals.specs.declared.refusal.Refusal.{Refusal}
 use Rattle.par_refusals.specs.First.{when, broken}
-use Rattle.par_source_table_laws.proofs.par_faults.Within.{left_none, right_none}
+use Rattle.par_typed_laws.proofs.par_faults.Within.{left_none, right_none}
 use Rattle.par_completes.specs.Completes.{completes}
 use Rattle.par_scope.specs.declared.meaning.Callee.{Callee}
 use Rattle.par_scope.specs.Locals.{Scope}
@@ -30,7 +30,7 @@ use Rattle.par_type_rules.specs.Stmts.{result_faults, declares, stmt_faults, bra
 use Rattle.par_type_rules.specs.Stmts.{may_braces_faults, else_faults, stmts_faults}
 use Rattle.par_type_rules.specs.Stmts.{catches_faults}
 use Rattle.par_type_rules.specs.Stmts.{handler_faults}
-use Rattle.par_annotation.specs.par_annotation_laws.Exprs.{number_of}
+use Rattle.par_annotation.specs.par_type_rules.TypedExprs.{number_of}
 use Rattle.par_annotation.specs.Ints.{one_unless, no_ints, may_no_ints, args_no_ints, stmt_no_ints}
 use Rattle.par_annotation.specs.Ints.{braces_no_ints, may_braces_no_ints, else_no_ints, all_no_ints}
 use Rattle.par_annotation.specs.Ints.{catches_no_ints, handler_no_ints}

@@ -1,7 +1,16 @@
+pub mod Lists
+pub mod Names
+pub mod Shared
+pub mod Births
+pub mod Actors
+pub mod Sound
+pub mod Numbers
+pub mod Policies
+pub mod WrittenFields
+pub mod Whole
 pub mod First
 pub mod Ints
 pub mod Small
 pub mod Tables
 pub mod Written
 pub mod WellTyped
-pub use Rattle.par_source_table_laws.proofs as par_source_table_laws

@@ -14,14 +14,14 @@ use Rattle.par_type_rules.specs.Methods.{result_fault, end_fault, home_of, body_
 use Rattle.par_type_rules.specs.Methods.{method_faults}
 use Rattle.par_type_rules.specs.Methods.{methods_faults, class_faults}
 use Rattle.par_type_rules.specs.Program.{declaration_faults, declarations_faults}
-use Rattle.par_source_table_laws.specs.par_faults.Limits.{class_limits, method_limits}
+use Rattle.par_typed_laws.specs.par_faults.Limits.{class_limits, method_limits}
 use Rattle.par_annotation.specs.Small.{IsSmall, AreSmall, IsSmallClass, IsSmallSource}
 use Rattle.par_source_laws.specs.Numbers.{HasNumbers, SourceHasNumbers}
 use Rattle.par_typing.proofs.Ints.{braces_ints}
-use Rattle.par_source_table_laws.proofs.par_faults.Sized.{braces_few}
-use Rattle.par_source_table_laws.proofs.par_faults.Within.{left_none, right_none}
-use Rattle.par_source_table_laws.proofs.par_faults.Within.{MethodIsWithin, method_within}
-use Rattle.par_source_table_laws.proofs.par_faults.Within.{class_within}
+use Rattle.par_typed_laws.proofs.par_faults.Sized.{braces_few}
+use Rattle.par_typed_laws.proofs.par_faults.Within.{left_none, right_none}
+use Rattle.par_typed_laws.proofs.par_faults.Within.{MethodIsWithin, method_within}
+use Rattle.par_typed_laws.proofs.par_faults.Within.{class_within}
 
 small_method : (home : Home) (m : Method) → MethodIsWithin m → HasNumbers m
     → body_faults home m ≡ [] → IsSmall m

@@ -14,10 +14,10 @@ use Rattle.par_resolved.specs.Numbered.{numbered}
 use Rattle.par_resolved.specs.Resolved.{Resolved, resolved, field_infos, channel_info}
 use Rattle.par_resolved.specs.Resolved.{method_info}
 use Rattle.par_resolved.specs.Resolved.{class_info, class_infos, table_of}
-use Rattle.par_source_table_laws.specs.par_faults.Limits.{in_order, earlier, member_places}
-use Rattle.par_source_table_laws.specs.par_faults.Limits.{class_limits}
-use Rattle.par_source_table_laws.proofs.par_faults.Within.{IsWithinLimits, ClassIsWithin}
-use Rattle.par_source_table_laws.proofs.par_faults.Within.{class_within}
+use Rattle.par_typed_laws.specs.par_faults.Limits.{in_order, earlier, member_places}
+use Rattle.par_typed_laws.specs.par_faults.Limits.{class_limits}
+use Rattle.par_typed_laws.proofs.par_faults.Within.{IsWithinLimits, ClassIsWithin}
+use Rattle.par_typed_laws.proofs.par_faults.Within.{class_within}
 
 -- none of two lists in order is lost
 ordered : (xs ys : List ℕ) → length (in_order xs ys) ≡ length xs + length ys

@@ -5,15 +5,15 @@ use Rattle.par_tree.specs.Plain.{Source}
 use Rattle.par_typed.specs.declared.table.Table.{Table}
 use Rattle.par_typed.specs.Plain.{Body}
 use Rattle.par_type_rules.specs.Program.{type_faults}
-use Rattle.par_annotation.specs.par_annotation_laws.Bodies.{typed_program}
+use Rattle.par_annotation.specs.par_type_rules.TypedBodies.{typed_program}
 use Rattle.par_source_laws.specs.Order.{IsInOrder}
 use Rattle.par_source_laws.specs.Sizes.{source_texts}
 use Rattle.par_resolved.specs.Resolved.{table_of}
-use Rattle.par_source_table_laws.specs.par_faults.Faults.{all_faults}
-use Rattle.par_source_table_laws.specs.par_typed_laws.WellTyped.{IsWellTyped}
-use Rattle.par_source_table_laws.proofs.par_typed_laws.Whole.{sources_are_well_typed}
-use Rattle.par_table_laws.specs.Declared.{IsWellDeclared}
-use Rattle.par_source_table_laws.proofs.Whole as tables
+use Rattle.par_typed_laws.specs.par_faults.Faults.{all_faults}
+use Rattle.par_typed_laws.specs.WellTyped.{IsWellTyped}
+use Rattle.par_typed_laws.proofs.Whole.{sources_are_well_typed}
+use Rattle.par_program_laws.specs.WellDeclared.{IsWellDeclared}
+use Rattle.par_typing.proofs.Whole as tables
 use Rattle.par_typing.specs.Typed.{written}
 
 pub well_typed : (table : Table) (source : Source) (found : List Body) → all_faults source ≡ []

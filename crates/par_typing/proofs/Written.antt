@@ -9,7 +9,7 @@ use Rattle.par_index.proofs.Places.{position-from}
 use Rattle.par_policy.specs.declared.clauses.Clause.{Clause}
 use Rattle.par_tree.specs.declared.decl.FieldDecl.{FieldDecl}
 use Rattle.par_tree.specs.Plain.{Source}
-use Rattle.par_annotation.specs.par_annotation_laws.Stmts.{Written}
+use Rattle.par_annotation.specs.par_type_rules.TypedStmts.{Written}
 use Rattle.par_resolved.specs.declared.entries.Entry.{Entry}
 use Rattle.par_resolved.specs.declared.known.Known as code
 use Rattle.par_resolved.specs.Seen.{known_seen}

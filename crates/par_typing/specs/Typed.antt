@@ -7,8 +7,8 @@ use Rattle.par_refusals.specs.declared.refusal.Refusal.{Refusal}
 use Rattle.par_refusals.specs.First.{IsFirst}
 use Rattle.par_typed.specs.Shown.{bodies}
 use Rattle.par_type_rules.specs.Program.{type_faults}
-use Rattle.par_annotation.specs.par_annotation_laws.Stmts.{Written}
-use Rattle.par_annotation.specs.par_annotation_laws.Bodies.{typed_program}
+use Rattle.par_annotation.specs.par_type_rules.TypedStmts.{Written}
+use Rattle.par_annotation.specs.par_type_rules.TypedBodies.{typed_program}
 use Rattle.par_resolved.specs.Numbers.{lock_number}
 use Rattle.par_resolved.specs.Resolved.{resolved, expression_number}
 use Rattle.par_typing.specs.declared.error.TypeError.{TypeError}

@@ -12,7 +12,7 @@ use Rattle.par_kinds.specs.Kinds.{KFrame, kind_at}
 use Rattle.par_kinds.specs.Fits.{Given}
 use Rattle.par_kinds.specs.Linked.{padded}
 use Rattle.par_kinds.specs.Told.{as_met, told}
-use Rattle.par_file_fit_laws.specs.par_placed_fit_laws.Laws.{IsGivenAt}
+use Rattle.par_placed_fit_laws.specs.Laws.{IsGivenAt}
 use Rattle.par_framed_file_laws.specs.par_given_frames.Laws.{TellsSame, AreWithin}
 use Rattle.par_verify_laws.specs.Verified.{whole}
 

@@ -15,7 +15,7 @@ use Rattle.par_single.specs.Members.{own_name}
 use Rattle.par_step_laws.specs.Methods.{pool_of, methods_of, class_pool, code_in, method_code}
 use Rattle.par_step_laws.specs.Methods as steps
 use Rattle.par_code_form.specs.declared.labelled.Labelled.{Labelled}
-use Rattle.par_place_laws.specs.Placed.{IsPlaced}
+use Rattle.par_code_form.specs.Placed.{IsPlaced}
 use Rattle.par_framed_file_laws.specs.par_compile_laws.Files.{IsMethodOf, IsCodeWith, HasCodeWith}
 use Rattle.par_framed_file_laws.specs.par_compile_laws.Files.{version}
 use Rattle.par_framed_file_laws.specs.par_compile_laws.Members.{Member, members}
@@ -28,18 +28,19 @@ use Rattle.par_verify_laws.specs.par_frames.Broken.{AreFrames, AreFramesIf, AreG
 use Rattle.par_verify_laws.proofs.par_frames.Again.{written_kinds_are_read}
 use Rattle.par_framed_file_laws.specs.par_given_frames.Laws.{TellsSame, AreWithin}
 use Rattle.par_framed_file_laws.proofs.par_given_frames.Written.{frames-again}
-use Rattle.par_framed_file_laws.specs.par_read_frame_laws.Laws.{PlacedFramesAreRead}
-use Rattle.par_framed_file_laws.proofs.par_read_frame_laws.Read.{placed-again}
-use Rattle.par_framed_file_laws.specs.par_frame_laws.Framed.{frames_of}
-use Rattle.par_framed_file_laws.specs.par_layout_laws.Code.{code_or_none, code_at}
-use Rattle.par_framed_file_laws.specs.par_layout_laws.Parts.{Known}
-use Rattle.par_framed_file_laws.proofs.par_layout_laws.Known.{Stands, word-is, class-of, its-class}
-use Rattle.par_framed_file_laws.proofs.par_layout_laws.Lists.{beside, each-item}
-use Rattle.par_framed_file_laws.proofs.par_layout_laws.Codes.{stands-there, code-there}
-use Rattle.par_framed_file_laws.proofs.par_layout_laws.Placed.{code_is_placed}
-use Rattle.par_framed_file_laws.proofs.par_layout_laws.Texts.{class-said}
-use Rattle.par_file_fit_laws.specs.Laws.{MethodFits}
-use Rattle.par_file_fit_laws.proofs.Whole.{loaded_methods_fit}
+use Rattle.par_framed_file_laws.specs.ReadLaws.{PlacedFramesAreRead}
+use Rattle.par_framed_file_laws.proofs.Read.{placed-again}
+use Rattle.par_framed_file_laws.specs.par_compile_laws.Framed.{frames_of}
+use Rattle.par_framed_file_laws.specs.par_file_run_laws.Code.{code_or_none, code_at}
+use Rattle.par_framed_file_laws.specs.par_file_run_laws.Parts.{Known}
+use Rattle.par_framed_file_laws.proofs.par_file_run_laws.Known.{Stands, word-is, class-of}
+use Rattle.par_framed_file_laws.proofs.par_file_run_laws.Known.{its-class}
+use Rattle.par_framed_file_laws.proofs.par_file_run_laws.Lists.{beside, each-item}
+use Rattle.par_framed_file_laws.proofs.par_file_run_laws.Codes.{stands-there, code-there}
+use Rattle.par_framed_file_laws.proofs.par_file_run_laws.Placed.{code_is_placed}
+use Rattle.par_framed_file_laws.proofs.par_file_run_laws.Texts.{class-said}
+use Rattle.par_verified_file_laws.specs.FitLaws.{MethodFits}
+use Rattle.par_verified_file_laws.proofs.FittingMethods.{loaded_methods_fit}
 use Rattle.par_framed_file_laws.specs.Laws.{AreLoadedFor, IsVersionedFile}
 use Rattle.par_framed_file_laws.proofs.Whole.{known, parts, IsSoundMember, code_given}
 use Rattle.par_framed_file_laws.proofs.Whole.{members_sound}

@@ -14,10 +14,10 @@ use Rattle.par_kinds.specs.Acts.{Act}
 use Rattle.par_kinds.specs.Fits.{Given}
 use Rattle.par_kinds.specs.Linked.{exception_names, act_at, caught_kind, first_frame, result_of}
 use Rattle.par_kinds.specs.Shapes.{act_of, shape_at}
-use Rattle.par_verify_laws.specs.par_frame_pass_laws.Passes.{Table, Judged, frame_at}
-use Rattle.par_verify_laws.specs.par_frame_pass_laws.Passes.{frames_as_told, start_table}
-use Rattle.par_verify_laws.proofs.par_frame_pass_laws.Least.{frames_as_told_are_least}
-use Rattle.par_verify_laws.proofs.par_linked_frame_laws.Shaped.{acts_agree}
+use Rattle.par_verify_laws.specs.par_kinds.Passes.{Table, Judged, frame_at}
+use Rattle.par_verify_laws.specs.par_kinds.Passes.{frames_as_told, start_table}
+use Rattle.par_verify_laws.proofs.par_kinds.Least.{frames_as_told_are_least}
+use Rattle.par_verify_laws.proofs.Shaped.{acts_agree}
 use Rattle.par_kinds.specs.declared.frame.PlacedFrame.{PlacedFrame}
 use Rattle.par_kinds.specs.declared.frame.MethodFrames.{MethodFrames}
 use Rattle.par_verify_laws.specs.par_frames.Broken.{IsPlacedIn}

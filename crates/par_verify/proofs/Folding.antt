@@ -14,7 +14,7 @@ use Rattle.par_kinds.specs.Told.{as_met, told}
 use Rattle.par_given_frames.specs.par_frames.Given.{on_some, locals_said, stack_said, frames_said}
 use Rattle.par_frame_steps.specs.declared.frame.PlaceFrame.{PlaceFrame}
 use Rattle.par_frame_passes.specs.Tables.{table_of}
-use Rattle.par_verify_laws.specs.par_frame_pass_laws.Passes.{Table, start_table}
+use Rattle.par_verify_laws.specs.par_kinds.Passes.{Table, start_table}
 use Rattle.par_verify_laws.specs.Verified.{whole}
 use Rattle.par_verify.specs.Starts.{told_of}
 use Rattle.par_verify.proofs.Saying.{framed}

@@ -15,16 +15,16 @@ use Rattle.par_kinds.specs.declared.frame.VKind.{VKind}
 use Rattle.par_kinds.specs.Kinds.{KFrame}
 use Rattle.par_kinds.specs.Acts.{Act}
 use Rattle.par_kinds.specs.Fits.{Given, Fitting}
-use Rattle.par_verify_laws.specs.par_frame_pass_laws.Passes.{Table, start_table, from_start}
-use Rattle.par_verify_laws.specs.par_frame_pass_laws.Passes.{begins_as}
-use Rattle.par_verify_laws.specs.par_frame_pass_laws.Passes.{are_sized, weights}
-use Rattle.par_verify_laws.specs.par_frame_pass_laws.Passes.{rounds, offsets_from, least_from}
-use Rattle.par_verify_laws.specs.par_frame_pass_laws.Passes.{frames_as_told}
-use Rattle.par_verify_laws.specs.par_frame_pass_laws.Passes.{frame_at}
-use Rattle.par_verify_laws.specs.par_frame_pass_laws.Passes.{is_sized, Judged, StartsWith}
-use Rattle.par_verify_laws.proofs.par_frame_pass_laws.Lower.{below-same}
-use Rattle.par_verify_laws.proofs.par_frame_pass_laws.Least.{least_judged}
-use Rattle.par_verify_laws.proofs.par_frame_pass_laws.Ending.{starts-within}
+use Rattle.par_verify_laws.specs.par_kinds.Passes.{Table, start_table, from_start}
+use Rattle.par_verify_laws.specs.par_kinds.Passes.{begins_as}
+use Rattle.par_verify_laws.specs.par_kinds.Passes.{are_sized, weights}
+use Rattle.par_verify_laws.specs.par_kinds.Passes.{rounds, offsets_from, least_from}
+use Rattle.par_verify_laws.specs.par_kinds.Passes.{frames_as_told}
+use Rattle.par_verify_laws.specs.par_kinds.Passes.{frame_at}
+use Rattle.par_verify_laws.specs.par_kinds.Passes.{is_sized, Judged, StartsWith}
+use Rattle.par_verify_laws.proofs.par_kinds.Lower.{below-same}
+use Rattle.par_verify_laws.proofs.par_kinds.Least.{least_judged}
+use Rattle.par_verify_laws.proofs.par_kinds.Ending.{starts-within}
 use Rattle.par_frame_steps.specs.declared.frame.PlaceFrame.{PlaceFrame}
 use Rattle.par_frame_steps.specs.Marks.{frame_of}
 use Rattle.par_frame_passes.specs.par_frame_guesses.declared.method.Method.{Method}

@@ -14,7 +14,7 @@ use Rattle.par_kinds.specs.Told.{as_met, told}
 use Rattle.par_frame_steps.specs.declared.frame.PlaceFrame.{PlaceFrame}
 use Rattle.par_frame_steps.specs.Marks.{frame_of}
 use Rattle.par_frame_passes.specs.Tables.{table_of}
-use Rattle.par_verify_laws.specs.par_frame_pass_laws.Passes.{Table, from_start, start_table}
+use Rattle.par_verify_laws.specs.par_kinds.Passes.{Table, from_start, start_table}
 use Rattle.par_verify_laws.specs.Verified.{whole}
 use Rattle.par_verify.specs.Starts.{told_of}
 

@@ -15,7 +15,7 @@ use Rattle.par_kinds.specs.declared.frame.MethodFrames.{MethodFrames}
 use Rattle.par_kinds.specs.Kinds.{KFrame}
 use Rattle.par_kinds.specs.Told.{as_met, told}
 use Rattle.par_verify_laws.specs.par_frames.Broken.{AreFrames, AreFramesIf, AreGivenIn, IsPlacedIn}
-use Rattle.par_verify_laws.proofs.par_frame_pass_laws.Ending.{starts-within}
+use Rattle.par_verify_laws.proofs.par_kinds.Ending.{starts-within}
 use Rattle.par_verify_laws.specs.Verified.{AllFrames, AreFramesOf, frames_in, frames_told}
 use Rattle.par_verify_laws.specs.Verified.{methods_told, whole}
 use Rattle.par_verify.specs.Answers.{IsMethod}

@@ -4,5 +4,4 @@ pub mod Said
 pub mod Starts
 pub mod Told
 pub use Rattle.par_verify_laws.specs.par_frames as par_frames
-pub use Rattle.par_verify_laws.specs.par_sound_laws as par_sound_laws
 pub use Rattle.par_verify_laws.specs as par_verify_laws

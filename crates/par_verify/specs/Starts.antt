@@ -20,8 +20,8 @@ use Rattle.par_kinds.specs.Acts.{Act}
 use Rattle.par_kinds.specs.Linked.{padded}
 use Rattle.par_kinds.specs.Fits.{Given}
 use Rattle.par_kinds.specs.Told.{told}
-use Rattle.par_verify_laws.specs.par_frame_pass_laws.Passes.{Table, is_sized, start_table}
-use Rattle.par_verify_laws.specs.par_frame_pass_laws.Passes.{frames_as_told}
+use Rattle.par_verify_laws.specs.par_kinds.Passes.{Table, is_sized, start_table}
+use Rattle.par_verify_laws.specs.par_kinds.Passes.{frames_as_told}
 use Rattle.par_verify_laws.specs.Verified.{whole}
 
 -- of code with so many locals

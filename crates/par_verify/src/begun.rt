@@ -2,7 +2,7 @@
 
 ghost use Rattle.std.specs.Prelude.{◌≡◌, ◌<◌, ◌^◌, None, replicate, length};
 ghost use Rattle.std.specs.Prelude.{IfOk, IfSome};
-ghost use Rattle.par_verify_laws.specs.par_frame_pass_laws.Passes.{start_table};
+ghost use Rattle.par_verify_laws.specs.par_kinds.Passes.{start_table};
 ghost use Rattle.par_frame_steps.specs.Marks.{kinds_of};
 ghost use Rattle.par_frame_passes.specs.Tables.{table_of};
 ghost use Rattle.par_given_frames.specs.par_frames.Given.{frames_said};

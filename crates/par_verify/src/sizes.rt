@@ -3,7 +3,7 @@
 ghost use Rattle.std.specs.Prelude.{◌≡◌, ◌≤◌, length};
 ghost use Rattle.std.specs.Option.{option_map};
 ghost use Rattle.par_kinds.specs.Fits.{Given};
-ghost use Rattle.par_verify_laws.specs.par_frame_pass_laws.Passes.{is_sized, are_sized};
+ghost use Rattle.par_verify_laws.specs.par_kinds.Passes.{is_sized, are_sized};
 ghost use Rattle.par_frame_steps.specs.Marks.{frame_of};
 ghost use Rattle.par_frame_passes.specs.par_frame_guesses.Methods.{code_in, IsToldOf};
 ghost use Rattle.par_frame_passes.specs.Tables.{table_of};

@@ -1,4 +1,17 @@
+pub mod Values
+pub mod Heap
+pub mod Places
+pub mod Effects
+pub mod Frames
+pub mod Growing
+pub mod Reasons
+pub mod Turns
+pub mod Whole
+pub mod Linking
+pub mod Shaped
+pub mod Texts
+pub mod Caught
+pub mod Mains
 pub mod Never
 pub use Rattle.par_frames.proofs as par_frames
-pub use Rattle.par_linked_frame_laws.proofs as par_linked_frame_laws
-pub use Rattle.par_frame_pass_laws.proofs as par_frame_pass_laws
+pub use Rattle.par_kinds.proofs as par_kinds

@@ -7,7 +7,7 @@ use Rattle.par_frames.specs.par_kinds.Linked.{exception_names, act_at, caught_ki
 use Rattle.par_frames.specs.par_kinds.Linked.{coded_at}
 use Rattle.par_frames.specs.par_kinds.Linked.{AllGiven, AllFit}
 use Rattle.par_frames.specs.par_step_laws.Methods.{method_code}
-use Rattle.par_linked_frame_laws.proofs.Mains.{frames_keep_programs_from_bad_code}
+use Rattle.par_verify_laws.proofs.Mains.{frames_keep_programs_from_bad_code}
 use Rattle.par_verify_laws.specs.Verified.{AllFrames, AreVerified}
 use Rattle.par_verify_laws.specs.Laws.{VerifiedProgramsAreNeverBad}
 

@@ -8,8 +8,8 @@ use Rattle.par_frames.specs.par_link.Linked.{AreLinked}
 use Rattle.par_single.specs.Members.{own_name, method_place}
 use Rattle.par_single.specs.Described.{main_member, method_in, is_begun_with}
 use Rattle.par_frames.specs.par_step_laws.Run.{machine_run}
-use Rattle.par_linked_frame_laws.specs.par_sound_laws.Laws.{IsFine}
-use Rattle.par_linked_frame_laws.specs.par_loader.Begun.{AreCoded}
+use Rattle.par_verify_laws.specs.SoundLaws.{IsFine}
+use Rattle.par_loader.specs.Begun.{AreCoded}
 use Rattle.par_verify_laws.specs.Verified.{AllFrames, AreVerified}
 
 -- the files of a program, of which the first is that of the class that was asked for

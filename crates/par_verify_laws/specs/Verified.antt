@@ -12,7 +12,7 @@ use Rattle.par_frames.specs.par_kinds.Linked.{exception_names, act_at, caught_ki
 use Rattle.par_frames.specs.par_kinds.Linked.{padded}
 use Rattle.par_frames.specs.par_kinds.Linked.{coded_at}
 use Rattle.par_frames.specs.par_step_laws.Methods.{method_code}
-use Rattle.par_frame_pass_laws.specs.Laws.{FitsAsTold}
+use Rattle.par_kinds.specs.Laws.{FitsAsTold}
 use Rattle.par_frames.specs.Broken.{AreFrames}
 
 -- the frames of each method of each file

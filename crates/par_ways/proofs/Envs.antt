@@ -6,8 +6,8 @@ use Rattle.std.proofs.Math.Path.{fun_ext}
 use Rattle.std.proofs.lemmas.Bool.{cases_lt}
 use Rattle.std.proofs.lemmas.Bool.Decides.{eqb_tells}
 use Rattle.par_bits.specs.Sets.{Set, has, union, IsWithin}
-use Rattle.par_flow_laws.specs.Lattice.{numbers}
-use Rattle.par_flow_laws.specs.Ways.{Way, assigned, put}
+use Rattle.par_program_laws.specs.Lattice.{numbers}
+use Rattle.par_program_laws.specs.Ways.{Way, assigned, put}
 use Rattle.par_pass_laws.specs.par_except.Seen.{locals}
 use Rattle.par_pass_laws.proofs.par_except.Locals.{locals_get, locals_past}
 

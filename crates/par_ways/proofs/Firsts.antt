@@ -6,10 +6,10 @@ use Rattle.std.proofs.lemmas.Bool.{cases_lt}
 use Rattle.std.proofs.Math.Path.{fun_ext}
 use Rattle.par_bits.specs.Sets.{Set, has, none, adding}
 use Rattle.par_typed.specs.declared.table.ParamInfo.{ParamInfo}
-use Rattle.par_flow_laws.specs.Lattice.{numbers}
-use Rattle.par_flow_laws.specs.Declares.{Method, params_of}
-use Rattle.par_flow_laws.specs.Closed.{arriving, locals as entering}
-use Rattle.par_flow_laws.specs.Ranges.{MOST, arrivals}
+use Rattle.par_program_laws.specs.Lattice.{numbers}
+use Rattle.par_program_laws.specs.Declares.{Method, params_of}
+use Rattle.par_program_laws.specs.Closed.{arriving, locals as entering}
+use Rattle.par_program_laws.specs.Ranges.{MOST, arrivals}
 use Rattle.par_pass_laws.specs.par_except.Seen.{locals}
 use Rattle.par_pass_laws.proofs.par_except.Locals.{locals_front, locals_last, locals_past}
 

@@ -4,7 +4,7 @@ use Rattle.std.proofs.Common.{length, get_or, set, drop, take, refl, sym, ap, â—
 use Rattle.std.proofs.Common.{add-one}
 use Rattle.std.proofs.Math.Seq.{drop-cons}
 use Rattle.par_bits.specs.Sets.{Set}
-use Rattle.par_flow_laws.specs.Kinds.{Kind, Normal, same}
+use Rattle.par_program_laws.specs.Kinds.{Kind, Normal, same}
 use Rattle.par_nodes.specs.Seen.{seen_kind}
 use Rattle.par_pass_laws.specs.par_except.Joins.{join}
 use Rattle.par_pass_laws.specs.par_except.Seen.{seen}

@@ -9,7 +9,7 @@ use Rattle.std.proofs.lemmas.Bool.{eq-eqb, ne_eqb}
 use Rattle.std.proofs.lemmas.Bool.Decides.{eqb_tells}
 use Rattle.par_policy.specs.Numbers.{has as is_among}
 use Rattle.par_bits.specs.Sets.{Set, adding}
-use Rattle.par_flow_laws.specs.Ranges.{MOST, AreLocks}
+use Rattle.par_program_laws.specs.Ranges.{MOST, AreLocks}
 
 or_false : (a : Bool) → (a || false) ≡ a
 or_false true = refl

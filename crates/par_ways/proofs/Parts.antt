@@ -5,11 +5,11 @@ use Rattle.std.proofs.lemmas.Bool.{eq-eqb}
 use Rattle.std.proofs.Math.Path.{fun_ext}
 use Rattle.std.proofs.lemmas.Bool.Decides.{eqb_tells}
 use Rattle.par_bits.specs.Sets.{has, none, adding}
-use Rattle.par_flow_laws.specs.Lattice.{numbers}
-use Rattle.par_flow_laws.specs.Facts.{Fact, blank}
-use Rattle.par_flow_laws.specs.Ranges.{MOST, AreLocks, IsFromInRange}
-use Rattle.par_flow_laws.specs.Rules.{From, part_at, way, worth}
-use Rattle.par_flow_laws.specs.Ways.{Way, moved, put, assigned, raised, shut, opened}
+use Rattle.par_program_laws.specs.Lattice.{numbers}
+use Rattle.par_program_laws.specs.Facts.{Fact, blank}
+use Rattle.par_program_laws.specs.Ranges.{MOST, AreLocks, IsFromInRange}
+use Rattle.par_program_laws.specs.Rules.{From, part_at, way, worth}
+use Rattle.par_program_laws.specs.Ways.{Way, moved, put, assigned, raised, shut, opened}
 use Rattle.par_policy.specs.Numbers.{has as is_among}
 use Rattle.par_nodes.specs.declared.rule.Locks.{Locks}
 use Rattle.par_nodes.specs.declared.rule.Locks.TheVariants.{Kept, Nothing, One, All}

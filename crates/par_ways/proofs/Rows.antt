@@ -1,8 +1,8 @@
 -- The facts of points, as they are kept.
 use Rattle.std.proofs.Common.{◌≡◌, ℕ, zero, suc, ◌<◌, ◌≤◌, List, [], ◌∷◌, length, get_or}
 use Rattle.std.proofs.Common.{refl, arith}
-use Rattle.par_flow_laws.specs.Lattice.{numbers}
-use Rattle.par_flow_laws.specs.Facts.{blank}
+use Rattle.par_program_laws.specs.Lattice.{numbers}
+use Rattle.par_program_laws.specs.Facts.{blank}
 use Rattle.par_pass_laws.specs.Written.{table}
 use Rattle.par_ways.specs.declared.fact.Fact as code_fact
 use Rattle.par_ways.specs.Seen.{seen_fact, seen_facts}

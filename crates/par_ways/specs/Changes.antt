@@ -2,11 +2,11 @@
 use Rattle.std.specs.Prelude.{◌<◌, ℕ, Option, Some, None, List}
 use Rattle.par_bits.specs.Sets.{Set, has, none, adding}
 use Rattle.par_policy.specs.Numbers.{has as is_among}
-use Rattle.par_flow_laws.specs.Lattice.{numbers}
-use Rattle.par_flow_laws.specs.Facts.{Fact}
-use Rattle.par_flow_laws.specs.Ranges.{MOST, AreLocks}
-use Rattle.par_flow_laws.specs.Rules.{part_at}
-use Rattle.par_flow_laws.specs.Ways.{Way, assigned, opened, raised, shut}
+use Rattle.par_program_laws.specs.Lattice.{numbers}
+use Rattle.par_program_laws.specs.Facts.{Fact}
+use Rattle.par_program_laws.specs.Ranges.{MOST, AreLocks}
+use Rattle.par_program_laws.specs.Rules.{part_at}
+use Rattle.par_program_laws.specs.Ways.{Way, assigned, opened, raised, shut}
 use Rattle.par_nodes.specs.declared.rule.Locks.{Locks}
 use Rattle.par_nodes.specs.declared.rule.Locks.TheVariants.{Kept, Nothing, One, All}
 

@@ -1,6 +1,6 @@
 -- Where a list of exits has one of a kind.
 use Rattle.std.specs.Prelude.{◌≡◌, ℕ, zero, suc, false, true, List, [], ◌∷◌}
-use Rattle.par_flow_laws.specs.Kinds.{Kind, same}
+use Rattle.par_program_laws.specs.Kinds.{Kind, same}
 use Rattle.par_pass_laws.specs.Exits.{Exit}
 
 abbrev pub HasNoPlace : Kind → List Exit → Type 0

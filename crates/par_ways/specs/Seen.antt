@@ -1,8 +1,8 @@
 -- What the code keeps of exits and of facts, as a pass speaks of them.
 use Rattle.std.specs.Prelude.{ℕ, All, Option, None, List, [], ◌∷◌, slice_index_or}
 use Rattle.par_bits.specs.Sets.{has}
-use Rattle.par_flow_laws.specs.Lattice.{numbers}
-use Rattle.par_flow_laws.specs.Facts as rules
+use Rattle.par_program_laws.specs.Lattice.{numbers}
+use Rattle.par_program_laws.specs.Facts as rules
 use Rattle.par_nodes.specs.Seen.{seen_kind}
 use Rattle.par_pass_laws.specs.par_except.declared.way.Way.{Way}
 use Rattle.par_pass_laws.specs.par_except.Seen.{may_see, seen, HasLocals, MayHaveLocals}

@@ -3,10 +3,10 @@ ghost use Rattle.std.specs.Prelude.{◌≡◌, ◌<◌, [], IfOk, IsTrue, length
 ghost use Rattle.std.specs.Option.{option_copied};
 ghost use Rattle.par_policy.specs.Numbers.{has as is_among};
 ghost use Rattle.par_bits.specs.Sets.{has, union};
-ghost use Rattle.par_flow_laws.specs.Lattice.{numbers};
-ghost use Rattle.par_flow_laws.specs.Ranges.{AreLocks, IsFromInRange, IsWorthInRange};
-ghost use Rattle.par_flow_laws.specs.Rules.{part_at, way as way_from, worth as worth_of};
-ghost use Rattle.par_flow_laws.specs.Ways.{assigned as written};
+ghost use Rattle.par_program_laws.specs.Lattice.{numbers};
+ghost use Rattle.par_program_laws.specs.Ranges.{AreLocks, IsFromInRange, IsWorthInRange};
+ghost use Rattle.par_program_laws.specs.Rules.{part_at, way as way_from, worth as worth_of};
+ghost use Rattle.par_program_laws.specs.Ways.{assigned as written};
 ghost use Rattle.par_nodes.specs.Seen.{seen_origin, seen_start, seen_worth};
 ghost use Rattle.par_nodes.specs.declared.rule.Locks.TheVariants.{Kept};
 ghost use Rattle.par_pass_laws.specs.par_except.Seen.{locals, may_see, seen};

@@ -1,8 +1,8 @@
 // Policies of locals, as lists.
 ghost use Rattle.std.specs.Prelude.{◌≡◌, ◌↔◌, ◌<◌, ℕ, IsTrue, IfOk, length};
 ghost use Rattle.par_bits.specs.Sets.{has, union, IsWithin};
-ghost use Rattle.par_flow_laws.specs.Lattice.{numbers};
-ghost use Rattle.par_flow_laws.specs.Ways.{put};
+ghost use Rattle.par_program_laws.specs.Lattice.{numbers};
+ghost use Rattle.par_program_laws.specs.Ways.{put};
 ghost use Rattle.par_pass_laws.specs.par_except.Seen.{locals};
 
 use par_atoms::Atoms;

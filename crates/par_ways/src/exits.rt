@@ -2,7 +2,7 @@
 ghost use Rattle.std.specs.Prelude.{◌≡◌, ℕ, OnOk, IfOk, MatchOption, length, [], ◌∷◌};
 ghost use Rattle.std.specs.Option.{option_copied};
 ghost use Rattle.par_bits.specs.Sets.{has};
-ghost use Rattle.par_flow_laws.specs.Kinds.{absorbed};
+ghost use Rattle.par_program_laws.specs.Kinds.{absorbed};
 ghost use Rattle.par_nodes.specs.Seen.{seen_absorber, seen_kind};
 ghost use Rattle.par_nodes.specs.declared.rule.Kind.TheVariants.{Normal};
 ghost use Rattle.par_pass_laws.specs.par_except.Joins.{join};

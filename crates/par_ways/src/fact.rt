@@ -2,8 +2,8 @@
 ghost use Rattle.std.specs.Prelude.{◌≡◌, ℕ, []};
 ghost use Rattle.std.specs.Option.{option_copied};
 ghost use Rattle.par_bits.specs.Sets.{has};
-ghost use Rattle.par_flow_laws.specs.Lattice.{numbers};
-ghost use Rattle.par_flow_laws.specs.Rules.{part_at};
+ghost use Rattle.par_program_laws.specs.Lattice.{numbers};
+ghost use Rattle.par_program_laws.specs.Rules.{part_at};
 ghost use Rattle.par_nodes.specs.Seen.{seen_kind};
 ghost use Rattle.par_pass_laws.specs.par_except.Seen.{may_see, MayHaveLocals};
 ghost use Rattle.par_pass_laws.specs.Written.{table as by_point};

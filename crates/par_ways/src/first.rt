@@ -2,10 +2,10 @@
 ghost use Rattle.std.specs.Prelude.{◌≡◌, ◌<◌, ◌≤◌, All, Some, IfOk, length};
 ghost use Rattle.par_policy.specs.Numbers.{has as is_among};
 ghost use Rattle.par_bits.specs.Sets.{has};
-ghost use Rattle.par_flow_laws.specs.Lattice.{numbers};
-ghost use Rattle.par_flow_laws.specs.Declares.{method_of, params_of};
-ghost use Rattle.par_flow_laws.specs.Closed.{arriving, first, locals as entering};
-ghost use Rattle.par_flow_laws.specs.Ranges.{AreLocks, MOST, arrivals};
+ghost use Rattle.par_program_laws.specs.Lattice.{numbers};
+ghost use Rattle.par_program_laws.specs.Declares.{method_of, params_of};
+ghost use Rattle.par_program_laws.specs.Closed.{arriving, first, locals as entering};
+ghost use Rattle.par_program_laws.specs.Ranges.{AreLocks, MOST, arrivals};
 ghost use Rattle.par_pass_laws.specs.par_except.Seen.{locals, seen};
 
 use crate::changes::all_locks;

@@ -1,8 +1,8 @@
 // A way that shares the policies of its locals with others.
 ghost use Rattle.std.specs.Prelude.{◌≡◌, ◌↔◌, ℕ, IsTrue, IfOk, length};
 ghost use Rattle.par_bits.specs.Sets.{has, union};
-ghost use Rattle.par_flow_laws.specs.Lattice.{numbers};
-ghost use Rattle.par_flow_laws.specs.Ways.{raised};
+ghost use Rattle.par_program_laws.specs.Lattice.{numbers};
+ghost use Rattle.par_program_laws.specs.Ways.{raised};
 ghost use Rattle.par_pass_laws.specs.par_except.Joins.{join};
 ghost use Rattle.par_pass_laws.specs.par_except.Seen.{locals, seen};
 

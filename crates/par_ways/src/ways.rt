@@ -1,7 +1,7 @@
 // When one way flows into another.
 ghost use Rattle.std.specs.Prelude.{◌≡◌, ◌↔◌, ℕ, IsTrue, IfOk, length};
-ghost use Rattle.par_flow_laws.specs.Lattice.{numbers};
-ghost use Rattle.par_flow_laws.specs.Ways.{Flows, MayFlow};
+ghost use Rattle.par_program_laws.specs.Lattice.{numbers};
+ghost use Rattle.par_program_laws.specs.Ways.{Flows, MayFlow};
 ghost use Rattle.par_pass_laws.specs.par_except.Joins.{may_join};
 ghost use Rattle.par_pass_laws.specs.par_except.Seen.{may_see, seen, MayHaveLocals};
 

@@ -1,6 +1,6 @@
 use Rattle.std.proofs.Common.{◌≡◌, ◌+◌, drop}
 use Rattle.par_scope.specs.Home.{seen}
-use Rattle.par_annotation_laws.specs.Bodies.{with_params}
+use Rattle.par_type_rules.specs.TypedBodies.{with_params}
 use Rattle.par_annotation.specs.Seen.{frame_seen}
 use Rattle.par_annotation.proofs.bodies.declare_params.Given as goal
 

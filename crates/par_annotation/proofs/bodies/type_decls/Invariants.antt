@@ -1,7 +1,7 @@
 use Rattle.std.proofs.Common.{◌≡◌, ◌++◌, drop}
 use Rattle.par_tree.specs.Shown.{all_declared}
 use Rattle.par_typed.specs.Shown.{bodies}
-use Rattle.par_annotation_laws.specs.Bodies.{typed_declarations}
+use Rattle.par_type_rules.specs.TypedBodies.{typed_declarations}
 use Rattle.par_annotation.specs.Numbers.{written_by}
 use Rattle.par_annotation.specs.Small.{IsSmallSource}
 use Rattle.par_annotation.proofs.bodies.type_decls.Given as goal

@@ -1,7 +1,7 @@
 use Rattle.std.proofs.Common.{◌≡◌, ◌++◌, drop}
 use Rattle.par_tree.specs.Shown.{methods}
 use Rattle.par_typed.specs.Shown.{bodies}
-use Rattle.par_annotation_laws.specs.Bodies.{typed_methods}
+use Rattle.par_type_rules.specs.TypedBodies.{typed_methods}
 use Rattle.par_annotation.specs.Numbers.{written_by}
 use Rattle.par_annotation.specs.Small.{AreSmall}
 use Rattle.par_annotation.proofs.bodies.type_methods.Given as goal

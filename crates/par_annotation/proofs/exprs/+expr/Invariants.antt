@@ -4,7 +4,7 @@ use Rattle.par_tree.specs.Nodes.{args_nodes}
 use Rattle.par_typed.specs.Shown as typed
 use Rattle.par_typed.specs.Nodes as count
 use Rattle.par_scope.specs.Home.{seen}
-use Rattle.par_annotation_laws.specs.Exprs.{typed_args}
+use Rattle.par_type_rules.specs.TypedExprs.{typed_args}
 use Rattle.par_annotation.specs.Ints.{args_no_ints}
 use Rattle.par_annotation.specs.Seen.{frame_seen}
 use Rattle.par_annotation.proofs.NodeForms.{before}

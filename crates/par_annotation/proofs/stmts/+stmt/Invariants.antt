@@ -4,8 +4,8 @@ use Rattle.par_tree.specs.Nodes.{all_nodes, catch_nodes}
 use Rattle.par_typed.specs.Shown as typed
 use Rattle.par_typed.specs.Nodes as count
 use Rattle.par_scope.specs.Home.{seen}
-use Rattle.par_annotation_laws.specs.Frames.{further}
-use Rattle.par_annotation_laws.specs.Stmts.{typed_stas, typed_catches}
+use Rattle.par_type_rules.specs.Frames.{further}
+use Rattle.par_type_rules.specs.TypedStmts.{typed_stas, typed_catches}
 use Rattle.par_scope.specs.Own.{all_locals, catches_locals}
 use Rattle.par_annotation.specs.Ints.{all_no_ints, catches_no_ints}
 use Rattle.par_annotation.specs.Seen.{frame_seen}

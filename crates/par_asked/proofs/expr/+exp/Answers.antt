@@ -2,7 +2,7 @@ use Rattle.std.proofs.Common.{arith}
 use Rattle.par_asked.proofs.Left.{args_left, no_args_left}
 use Rattle.std.specs.Option.{option_copied}
 use Rattle.par_typed.specs.Shown.{mark_of}
-use Rattle.par_nodes.specs.par_flow_laws.Declares.{method_of}
+use Rattle.par_nodes.specs.par_program_laws.Declares.{method_of}
 use Rattle.par_asked.specs.Seen.{seen_checks, own, table}
 use Rattle.par_asked.proofs.Forms.{exps, call_made}
 use Rattle.std.proofs.lemmas.Result.{on_ok_weaker}

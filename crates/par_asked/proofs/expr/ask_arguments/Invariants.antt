@@ -1,6 +1,6 @@
 use Rattle.std.proofs.Common.{◌≡◌, ◌++◌, drop}
 use Rattle.par_typed.specs.Shown.{all_shown}
-use Rattle.par_nodes.specs.par_flow_laws.Declares.{params_of}
+use Rattle.par_nodes.specs.par_program_laws.Declares.{params_of}
 use Rattle.par_check_laws.specs.Checks.{arguments}
 use Rattle.par_asked.specs.Seen.{seen_checks, own, table}
 use Rattle.par_asked.proofs.expr.ask_arguments.Given as goal

@@ -1,4 +1,4 @@
-use Rattle.par_nodes.specs.par_flow_laws.Declares.{throws_of}
+use Rattle.par_nodes.specs.par_program_laws.Declares.{throws_of}
 use Rattle.par_asked.specs.Seen.{seen_checks}
 use Rattle.par_asked.proofs.Others.{undeclared_more}
 use Rattle.par_asked.proofs.method.ask_all_undeclared.Goals as goal

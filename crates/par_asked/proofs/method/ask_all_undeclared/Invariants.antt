@@ -1,5 +1,5 @@
 use Rattle.std.proofs.Common.{◌≡◌, ◌++◌}
-use Rattle.par_nodes.specs.par_flow_laws.Declares.{throws_of}
+use Rattle.par_nodes.specs.par_program_laws.Declares.{throws_of}
 use Rattle.par_check_laws.specs.Checks.{undeclared_checks, others}
 use Rattle.par_asked.specs.Seen.{seen_checks}
 use Rattle.par_asked.proofs.method.ask_all_undeclared.Given as goal

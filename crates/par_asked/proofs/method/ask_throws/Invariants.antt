@@ -1,5 +1,5 @@
 use Rattle.std.proofs.Common.{◌≡◌, ◌++◌, drop}
-use Rattle.par_nodes.specs.par_flow_laws.Declares.{throws_of}
+use Rattle.par_nodes.specs.par_program_laws.Declares.{throws_of}
 use Rattle.par_check_laws.specs.Checks.{throws_checks}
 use Rattle.par_asked.specs.Seen.{seen_checks}
 use Rattle.par_asked.proofs.method.ask_throws.Given as goal

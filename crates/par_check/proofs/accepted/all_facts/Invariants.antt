@@ -2,11 +2,11 @@ use Rattle.std.proofs.Common.{◌≡◌, List, ◌++◌, length, drop}
 use Rattle.std.specs.Prelude.{map}
 use Rattle.std.specs.List.{AllByRecursion}
 use Rattle.par_typed.specs.Shown.{bodies}
-use Rattle.par_asked.specs.par_flow_laws.Lattice.{numbers}
-use Rattle.par_asked.specs.par_flow_laws.Facts.{Facts}
+use Rattle.par_asked.specs.par_program_laws.Lattice.{numbers}
+use Rattle.par_asked.specs.par_program_laws.Facts.{Facts}
 use Rattle.par_flow.specs.Table.{facts_in}
 use Rattle.par_asked.specs.par_check_laws.Right.{AreAllRight}
-use Rattle.par_flow_laws.specs.Orderly.{IsOrderlyBody}
+use Rattle.par_program_laws.specs.Orderly.{IsOrderlyBody}
 use Rattle.par_check.proofs.accepted.all_facts.Given as goal
 
 -- with facts of the bodies that are left, these are facts of all

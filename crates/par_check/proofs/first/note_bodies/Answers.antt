@@ -2,8 +2,8 @@ use Rattle.std.proofs.Common.{List, ◌∷◌, map, length, drop, ◌+◌, ◌<�
 use Rattle.par_typed.specs.declared.table.Table.{Table}
 use Rattle.par_typed.specs.Plain.{Body}
 use Rattle.par_typed.specs.Shown.{body, bodies}
-use Rattle.par_asked.specs.par_flow_laws.Lattice.{numbers}
-use Rattle.par_asked.specs.par_flow_laws.Facts.{Facts}
+use Rattle.par_asked.specs.par_program_laws.Lattice.{numbers}
+use Rattle.par_asked.specs.par_program_laws.Facts.{Facts}
 use Rattle.par_asked.specs.par_check_laws.Checks.{checks}
 use Rattle.par_asked.specs.par_check_laws.Verdict.{KeepsNumbered}
 use Rattle.par_check.specs.Told.{AreBroken, AreAllBroken}

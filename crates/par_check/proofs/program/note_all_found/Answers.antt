@@ -3,7 +3,7 @@ use Rattle.std.specs.List.{AllByRecursion}
 use Rattle.par_typed.specs.declared.table.Table.{Table}
 use Rattle.par_typed.specs.Plain.{Body}
 use Rattle.par_typed.specs.Shown.{body, bodies}
-use Rattle.par_flow_laws.specs.Orderly.{IsOrderlyBody}
+use Rattle.par_program_laws.specs.Orderly.{IsOrderlyBody}
 use Rattle.par_check.specs.Told.{HasTold}
 use Rattle.par_check.proofs.Told.{Tells, tells_first, tells_on, tells_all, bodies_left}
 use Rattle.par_check.proofs.Told.{no_bodies_left}

@@ -1,8 +1,8 @@
 use Rattle.std.proofs.Common.{◌+◌, sym, subst, arith}
 use Rattle.par_code_form.specs.declared.labelled.Labelled.{Labelled}
-use Rattle.par_place_laws.specs.Framed.{AreFramesPlaceable}
+use Rattle.par_code_form.specs.PlaceableFrames.{AreFramesPlaceable}
 use Rattle.par_framing.specs.par_frames.Room.{HasRoom, SPARE}
-use Rattle.par_framing.specs.par_frame_laws.Framed.{IsPlacedWith, classes_with, entries_with}
+use Rattle.par_framing.specs.par_compile_laws.Framed.{IsPlacedWith, classes_with, entries_with}
 use Rattle.par_framing.specs.Added.{AddsConstants, spare_with}
 use Rattle.par_compile.specs.Own.{code_in, code_entries, code_classes}
 use Rattle.par_compile.specs.Room.{Leaves}

@@ -6,8 +6,8 @@ use Rattle.par_erase.specs.Shown.{bodies_of}
 use Rattle.par_erase.specs.Erased.{erased_table}
 use Rattle.par_erase.specs.Named.{AreNamed}
 use Rattle.par_compile_laws.specs.Files.{FIRST_DECLARED}
-use Rattle.par_placeable_laws.proofs.Bodies.{all_ready, all_named}
-use Rattle.par_placeable_laws.proofs.Words.{words_are_texts}
+use Rattle.par_source_code_laws.proofs.PlaceableBodies.{all_ready, all_named}
+use Rattle.par_source_code_laws.proofs.Words.{words_are_texts}
 use Rattle.par_compile.specs.Compiled.{AreCompiled}
 use Rattle.par_compile.proofs.Ready.{classes_named, classes_ready}
 use Rattle.par_compile.proofs.program.compile.Goals as goal

@@ -4,10 +4,10 @@ use Rattle.par_grammar.specs.declared.sort.Sort.TheVariants as sort
 use Rattle.par_grammar.specs.Grammar as symbol
 use Rattle.par_grammar.specs.Derivation.{next}
 use Rattle.par_grammar.proofs.Run.{run}
-use Rattle.par_language_laws.specs.par_reader.Reads.{input}
-use Rattle.par_language_laws.proofs.par_reader.Alternatives.{opens, refuses, again, fails_again}
-use Rattle.par_language_laws.proofs.par_reader.Alternatives.{building, keeping}
-use Rattle.par_language_laws.proofs.par_reader.Alternatives.{handed, continued}
+use Rattle.par_reader.specs.Reads.{input}
+use Rattle.par_reader.proofs.Alternatives.{opens, refuses, again, fails_again}
+use Rattle.par_reader.proofs.Alternatives.{building, keeping}
+use Rattle.par_reader.proofs.Alternatives.{handed, continued}
 use Rattle.par_tree.specs.Grammar as g
 use Rattle.par_tree.specs.Shown.{shown, all_shown}
 use Rattle.par_tree.specs.Values.{paragon, tok, exp, exps}

@@ -2,10 +2,10 @@ use Rattle.std.proofs.Common.{◌≡◌, ◌≢◌, ℕ, List, drop, [], ◌∷�
 use Rattle.std.specs.Result.{IsErrAnd}
 use Rattle.par_lexer.specs.declared.token.Token.{Token}
 use Rattle.par_grammar.specs.Derivation.{Input, Outcome}
-use Rattle.par_language_laws.specs.par_reader.Reads.{input, fault_of}
-use Rattle.par_language_laws.specs.par_reader.declared.error.ParseError.{ParseError}
-use Rattle.par_language_laws.specs.par_reader.declared.error.ParseError.TheVariants.{Memory}
-use Rattle.par_language_laws.proofs.par_reader.Ends.{comes_to, comes_to_fault}
+use Rattle.par_reader.specs.Reads.{input, fault_of}
+use Rattle.par_reader.specs.declared.error.ParseError.{ParseError}
+use Rattle.par_reader.specs.declared.error.ParseError.TheVariants.{Memory}
+use Rattle.par_reader.proofs.Ends.{comes_to, comes_to_fault}
 use Rattle.par_tree.specs.declared.expr.Expr.{Expr}
 use Rattle.par_tree.specs.Grammar.{expr}
 use Rattle.par_tree.specs.Values.{Value, paragon}

@@ -1,5 +1,5 @@
 use Rattle.std.proofs.Common.{sym, ap, ◌∙◌, subst, ◌∷◌, [], ◌++◌, inl, inr, ⊎_elim}
-use Rattle.par_flow_laws.specs.Kinds.{Throw}
+use Rattle.par_program_laws.specs.Kinds.{Throw}
 use Rattle.par_locks.specs.par_pass_laws.Exits.{at}
 use Rattle.par_envs.specs.Numbered.{envs}
 use Rattle.par_rounds.specs.par_ways.Seen.{seen_exit}

@@ -1,5 +1,5 @@
 use Rattle.std.proofs.Common.{sym, subst, take}
-use Rattle.par_flow_laws.specs.Kinds.{Throw}
+use Rattle.par_program_laws.specs.Kinds.{Throw}
 use Rattle.par_locks.specs.par_except.Seen.{HasLocals}
 use Rattle.par_locks.specs.par_pass_laws.Exits.{at}
 use Rattle.par_envs.specs.Numbered.{envs}

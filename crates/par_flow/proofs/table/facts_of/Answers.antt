@@ -1,6 +1,6 @@
 use Rattle.std.proofs.Common.{subst}
 use Rattle.par_typed.specs.Shown.{bodies}
-use Rattle.par_flow_laws.specs.Orderly.{IsOrderlyBody}
+use Rattle.par_program_laws.specs.Orderly.{IsOrderlyBody}
 use Rattle.par_rounds.proofs.Program.{all_at, same_body}
 use Rattle.par_flow.specs.Table.{IsTableOf}
 use Rattle.par_flow.proofs.table.facts_of.Goals as goal

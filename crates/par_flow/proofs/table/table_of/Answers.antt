@@ -2,7 +2,7 @@ use Rattle.std.proofs.Common.{refl, sym, ap, ◌∙◌, subst, ◌++◌}
 use Rattle.par_policy.specs.Numbers.{has}
 use Rattle.par_typed.specs.Shown as shown
 use Rattle.par_rounds.specs.par_ways.Seen.{seen_facts, AreRowsWide}
-use Rattle.par_flow_laws.specs.Orderly.{locals_in}
+use Rattle.par_program_laws.specs.Orderly.{locals_in}
 use Rattle.par_flow.specs.Statements.{points}
 use Rattle.par_flow.specs.Table.{envs_in, AllShow}
 use Rattle.par_flow.proofs.Rows.{table_is}

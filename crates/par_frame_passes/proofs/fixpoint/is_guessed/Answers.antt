@@ -1,6 +1,6 @@
 use Rattle.std.proofs.Common.{◌≡◌, List, Option, Some, sym, subst}
 use Rattle.std.proofs.lemmas.Result.{IfOk-weaker}
-use Rattle.par_frame_pass_laws.specs.Passes.{frame_at}
+use Rattle.par_kinds.specs.Passes.{frame_at}
 use Rattle.par_frame_steps.specs.declared.frame.PlaceFrame.{PlaceFrame}
 use Rattle.par_frame_guesses.specs.Methods.{exc_of, act_in, handler_in, code_in}
 use Rattle.par_frame_passes.specs.Sweeps.{Kept, Settles}

@@ -1,5 +1,5 @@
 use Rattle.std.proofs.Common.{List, Bool, false, get_or, ap, ◌∙◌}
-use Rattle.par_frame_pass_laws.specs.Passes.{frame_at}
+use Rattle.par_kinds.specs.Passes.{frame_at}
 use Rattle.par_frame_passes.specs.Tables.{table_of}
 use Rattle.par_frame_passes.proofs.Told.{marks-of}
 use Rattle.par_frame_passes.proofs.fixpoint.least_around.Goals as goal

@@ -1,7 +1,7 @@
 use Rattle.std.proofs.Common.{sym, subst, arith}
 use Rattle.std.proofs.lemmas.Int.{ints}
 use Rattle.par_frame_moves.specs.par_kinds.Acts.{next_offsets}
-use Rattle.par_frame_pass_laws.specs.Passes.{onward}
+use Rattle.par_kinds.specs.Passes.{onward}
 use Rattle.par_frame_steps.specs.Marks.{frame_of, flow_of}
 use Rattle.par_frame_steps.specs.declared.act.Flow.{Flow}
 use Rattle.par_frame_guesses.specs.Methods.{exc_of, act_in, handler_in, code_in}

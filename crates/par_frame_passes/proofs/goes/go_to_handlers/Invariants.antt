@@ -1,6 +1,6 @@
 use Rattle.std.proofs.Common.{take, Ok}
 use Rattle.par_frame_moves.specs.par_kinds.Fits.{Given}
-use Rattle.par_frame_pass_laws.specs.Passes.{handled}
+use Rattle.par_kinds.specs.Passes.{handled}
 use Rattle.par_frame_steps.specs.Marks.{frame_of}
 use Rattle.par_frame_guesses.specs.Methods.{exc_of, act_in, handler_in, code_in, IsToldOf}
 use Rattle.par_frame_passes.specs.Sweeps.{Went}

@@ -2,7 +2,7 @@ use Rattle.std.proofs.Common.{◌≡◌, List, length, Ok, sym, ap, subst, ◌�
 use Rattle.std.proofs.lemmas.Bool.{eqb-true}
 use Rattle.std.specs.Option.{option_map}
 use Rattle.par_class.specs.declared.file.Catch.{Catch}
-use Rattle.par_frame_pass_laws.specs.Passes.{handled}
+use Rattle.par_kinds.specs.Passes.{handled}
 use Rattle.par_frame_steps.specs.Marks.{frame_of}
 use Rattle.par_frame_guesses.specs.Methods.{exc_of, act_in, handler_in, code_in}
 use Rattle.par_frame_passes.specs.Sweeps.{Went}

@@ -1,6 +1,6 @@
 use Rattle.std.proofs.Common.{◌≡◌, Some, sym}
 use Rattle.std.specs.Option.{option_map}
-use Rattle.par_frame_pass_laws.specs.Passes.{frame_at}
+use Rattle.par_kinds.specs.Passes.{frame_at}
 use Rattle.par_frame_steps.specs.Marks.{frame_of}
 use Rattle.par_frame_guesses.specs.Methods.{exc_of, act_in, handler_in, code_in, fixed_at}
 use Rattle.par_frame_passes.specs.Tables.{table_of}

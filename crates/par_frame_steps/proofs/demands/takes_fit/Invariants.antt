@@ -1,5 +1,5 @@
 use Rattle.std.proofs.Common.{◌≡◌, drop, map}
-use Rattle.par_frame_pass_laws.specs.Passes.{takes_fit}
+use Rattle.par_kinds.specs.Passes.{takes_fit}
 use Rattle.par_frame_steps.specs.Marks.{asked_of, operands_of}
 use Rattle.par_frame_steps.proofs.demands.takes_fit.Given as goal
 

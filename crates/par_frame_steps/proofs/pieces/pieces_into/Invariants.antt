@@ -1,5 +1,5 @@
 use Rattle.std.proofs.Common.{◌≡◌, drop}
-use Rattle.par_frame_pass_laws.specs.Passes.{all_into}
+use Rattle.par_kinds.specs.Passes.{all_into}
 use Rattle.par_frame_steps.specs.Marks.{names, kinds_of}
 use Rattle.par_frame_steps.specs.Piled.{joined}
 use Rattle.par_frame_steps.proofs.pieces.pieces_into.Given as goal

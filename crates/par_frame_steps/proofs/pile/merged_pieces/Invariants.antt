@@ -1,5 +1,5 @@
 use Rattle.std.proofs.Common.{◌≡◌, ◌++◌, length, drop}
-use Rattle.par_frame_pass_laws.specs.Passes.{merge_all}
+use Rattle.par_kinds.specs.Passes.{merge_all}
 use Rattle.par_frame_steps.specs.Marks.{names, kinds_of}
 use Rattle.par_frame_steps.specs.Piled.{joined, AreWhole}
 use Rattle.par_frame_steps.proofs.pile.merged_pieces.Given as goal

@@ -3,8 +3,8 @@ use Rattle.std.specs.Prelude.{All, IfOk, slice_index}
 use Rattle.par_kinds.specs.declared.frame.PlacedFrame.{PlacedFrame}
 use Rattle.par_frames.specs.Names.{classes_named}
 use Rattle.par_frames.specs.Room.{HasRoom, IsShort, Ascend, offsets, SPARE}
-use Rattle.par_framing.specs.par_frame_laws.Framed.{AreAttributes, frames_with}
-use Rattle.par_framing.specs.par_frame_laws.Framed.{frame_classes}
+use Rattle.par_compile_laws.specs.Framed.{AreAttributes, frames_with}
+use Rattle.par_compile_laws.specs.Framed.{frame_classes}
 use Rattle.par_framing.proofs.Kept.{room_fewer, among_later}
 use Rattle.par_framing.proofs.Tables.{table_none, table_among}
 use Rattle.par_framing.proofs.Written.{have_labels, all_short, classes_written}

@@ -4,7 +4,7 @@ use Rattle.par_frames.specs.Names.{classes_named}
 use Rattle.par_frames.specs.Room.{SPARE}
 use Rattle.par_frames.specs.Attribute.{IsAttribute}
 use Rattle.par_kinds.specs.declared.frame.VKind.{VKind}
-use Rattle.par_framing.specs.par_frame_laws.Framed.{kinds_of}
+use Rattle.par_compile_laws.specs.Framed.{kinds_of}
 use Rattle.par_framing.proofs.Kept.{room_behind, room_skipped}
 use Rattle.par_framing.proofs.Tables.{name_kept, no_tables, one_table, table_fits, none_fit}
 use Rattle.par_framing.proofs.Tables.{table_none, table_first, table_then}

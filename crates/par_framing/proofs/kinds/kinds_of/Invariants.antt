@@ -1,5 +1,5 @@
 use Rattle.std.proofs.Common.{◌≡◌, take}
-use Rattle.par_frame_laws.specs.Framed.{kinds_of}
+use Rattle.par_compile_laws.specs.Framed.{kinds_of}
 use Rattle.par_framing.proofs.kinds.kinds_of.Given as goal
 
 abbrev pub invariant-loop-slot : goal.invariant-loop-slot

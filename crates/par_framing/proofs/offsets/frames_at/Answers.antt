@@ -1,6 +1,6 @@
 use Rattle.std.proofs.Common.{◌∙◌, arith}
 use Rattle.std.specs.Prelude.{slice_index}
-use Rattle.par_frame_laws.specs.Framed.{frame_of}
+use Rattle.par_compile_laws.specs.Framed.{frame_of}
 use Rattle.par_framing.proofs.Joining.{added_more, all_added}
 use Rattle.par_framing.proofs.offsets.frames_at.Goals as goal
 

@@ -1,5 +1,5 @@
 use Rattle.std.proofs.Common.{List, ℕ, refl, sym, subst}
-use Rattle.par_place.specs.par_place_laws.Named.{entry_count}
+use Rattle.par_place.specs.par_code_form.PoolNames.{entry_count}
 use Rattle.par_place.specs.Labels.{IsPlacedAt}
 use Rattle.par_framing.specs.Added.{HasLabelOffsets}
 use Rattle.par_framing.proofs.Kept.{fits_kept}

@@ -5,7 +5,7 @@ use Rattle.par_bits.specs.Sets.{Set}
 use Rattle.par_typed.specs.declared.table.FieldInfo.{FieldInfo}
 use Rattle.par_typed.specs.declared.table.ClassInfo.{ClassInfo}
 use Rattle.par_asked.proofs.Left.{left_more}
-use Rattle.par_table_laws.specs.Inferred.{inferred_among, inferred_in}
+use Rattle.par_program_laws.specs.Inferred.{inferred_among, inferred_in}
 use Rattle.par_infer.specs.Bounds.{born_above, births_above}
 use Rattle.par_infer.specs.Collected.{Gains}
 use Rattle.par_infer.proofs.Asked.{Adds, adds_on}

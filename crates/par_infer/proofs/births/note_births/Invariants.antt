@@ -1,7 +1,7 @@
 use Rattle.std.proofs.Common.{ℕ, ◌<◌, drop, length}
 use Rattle.std.specs.Prelude.{IsTrue}
 use Rattle.std.specs.List.{AllByRecursion}
-use Rattle.par_table_laws.specs.Inferred.{inferred_in}
+use Rattle.par_program_laws.specs.Inferred.{inferred_in}
 use Rattle.par_infer.specs.Bounds.{births_above}
 use Rattle.par_infer.proofs.Asked.{Adds}
 use Rattle.par_infer.specs.Births.{every}

@@ -3,7 +3,7 @@ use Rattle.std.specs.Prelude.{IsTrue}
 use Rattle.par_bits.specs.Sets.{Set}
 use Rattle.par_typed.specs.declared.table.FieldInfo.{FieldInfo}
 use Rattle.par_asked.proofs.Left.{left_more}
-use Rattle.par_table_laws.specs.Inferred.{inferred_among}
+use Rattle.par_program_laws.specs.Inferred.{inferred_among}
 use Rattle.par_infer.specs.Bounds.{born_above}
 use Rattle.par_infer.proofs.Asked.{Adds, adds_on}
 use Rattle.par_infer.specs.Births.{born_once, every}

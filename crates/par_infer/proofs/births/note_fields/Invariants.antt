@@ -1,6 +1,6 @@
 use Rattle.std.proofs.Common.{ℕ, ◌<◌, drop, length}
 use Rattle.std.specs.Prelude.{IsTrue}
-use Rattle.par_table_laws.specs.Inferred.{inferred_among}
+use Rattle.par_program_laws.specs.Inferred.{inferred_among}
 use Rattle.par_infer.specs.Bounds.{born_above}
 use Rattle.par_infer.proofs.Asked.{Adds}
 use Rattle.par_infer.specs.Births.{every}

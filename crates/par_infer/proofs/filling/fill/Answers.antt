@@ -4,8 +4,8 @@ use Rattle.std.specs.List.{AllByRecursion}
 use Rattle.par_typed.specs.declared.table.FieldInfo.{FieldInfo}
 use Rattle.par_typed.specs.declared.table.ClassInfo.{ClassInfo}
 use Rattle.par_asked.proofs.Left.{left_more}
-use Rattle.par_table_laws.specs.Inferred.{inferred_among, inferred_in}
-use Rattle.par_table_laws.specs.Declared.{HasFewFields}
+use Rattle.par_program_laws.specs.Inferred.{inferred_among, inferred_in}
+use Rattle.par_program_laws.specs.WellDeclared.{HasFewFields}
 use Rattle.par_infer.specs.Filled.{filled_among, filled_in}
 use Rattle.par_infer.proofs.Born.{class_inside, classes_inside}
 use Rattle.par_infer.proofs.Filled.{fills_on}

@@ -1,8 +1,8 @@
 use Rattle.std.proofs.Common.{◌≡◌, ℕ, ◌<◌, ◌++◌, drop, length}
 use Rattle.std.specs.Prelude.{IsTrue}
 use Rattle.std.specs.List.{AllByRecursion}
-use Rattle.par_table_laws.specs.Inferred.{inferred_in}
-use Rattle.par_table_laws.specs.Declared.{HasFewFields}
+use Rattle.par_program_laws.specs.Inferred.{inferred_in}
+use Rattle.par_program_laws.specs.WellDeclared.{HasFewFields}
 use Rattle.par_infer.specs.Filled.{filled_in}
 use Rattle.par_infer.proofs.filling.fill.Given as goal
 

@@ -2,7 +2,7 @@ use Rattle.std.proofs.Common.{◌≡◌, ℕ, ◌<◌, ◌+◌, ◌++◌, List, 
 use Rattle.std.specs.Prelude.{IsTrue}
 use Rattle.par_typed.specs.declared.table.FieldInfo.{FieldInfo}
 use Rattle.par_asked.proofs.Left.{left_more}
-use Rattle.par_table_laws.specs.Inferred.{inferred_among}
+use Rattle.par_program_laws.specs.Inferred.{inferred_among}
 use Rattle.par_infer.specs.Filled.{filled_field, filled_among}
 use Rattle.par_infer.proofs.Born.{field_inside, rest_inside}
 use Rattle.par_infer.proofs.Filled.{fills_on}

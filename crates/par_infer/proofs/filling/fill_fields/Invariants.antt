@@ -1,6 +1,6 @@
 use Rattle.std.proofs.Common.{◌≡◌, ℕ, ◌<◌, ◌++◌, drop, length}
 use Rattle.std.specs.Prelude.{IsTrue}
-use Rattle.par_table_laws.specs.Inferred.{inferred_among}
+use Rattle.par_program_laws.specs.Inferred.{inferred_among}
 use Rattle.par_infer.specs.Filled.{filled_among}
 use Rattle.par_infer.proofs.filling.fill_fields.Given as goal
 

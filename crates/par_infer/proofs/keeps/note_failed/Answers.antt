@@ -2,7 +2,7 @@ use Rattle.std.proofs.Common.{◌≡◌, ◌↔◌, ℕ, List, drop, ◌+◌, re
 use Rattle.std.specs.Prelude.{IsTrue}
 use Rattle.par_bits.specs.Sets.{has}
 use Rattle.par_typed.specs.declared.table.Table.{Table}
-use Rattle.par_table_laws.specs.Inferred.{inferred}
+use Rattle.par_program_laws.specs.Inferred.{inferred}
 use Rattle.par_reached.specs.Reached.{set_at}
 use Rattle.par_check.specs.par_check_laws.Asked.{Check}
 use Rattle.par_asked.specs.Seen.{seen_check, seen_checks}

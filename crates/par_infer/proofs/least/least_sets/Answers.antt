@@ -2,7 +2,7 @@ use Rattle.std.proofs.Common.{List, map, subst}
 use Rattle.par_bits.specs.Sets.{has}
 use Rattle.par_typed.specs.declared.table.ClassInfo.{ClassInfo}
 use Rattle.par_typed.specs.Shown.{bodies}
-use Rattle.par_table_laws.specs.Inferred.{inferred}
+use Rattle.par_program_laws.specs.Inferred.{inferred}
 use Rattle.par_reached.specs.Reached.{set_at}
 use Rattle.par_infer.specs.Bounds.{births_above, bodies_above}
 use Rattle.par_infer.specs.Collected.{Gains}

@@ -2,7 +2,7 @@ use Rattle.std.proofs.Common.{◌<◌, ◌+◌, ℕ, ◌||◌, drop, subst, ap, 
 use Rattle.std.specs.Prelude.{IsTrue}
 use Rattle.std.proofs.lemmas.Bool.{or_left}
 use Rattle.par_bits.specs.Sets.{Set, has}
-use Rattle.par_table_laws.specs.Inferred.{inferred_among, inferred_in}
+use Rattle.par_program_laws.specs.Inferred.{inferred_among, inferred_in}
 use Rattle.par_infer.proofs.Noted.{Goes, goes_on, classes_left}
 use Rattle.par_infer.proofs.numbers.with_classes.Goals as goal
 

@@ -1,7 +1,7 @@
 use Rattle.std.proofs.Common.{◌<◌, ◌+◌, ℕ, drop, subst, ap, ◌∙◌}
 use Rattle.std.specs.Prelude.{IsTrue}
 use Rattle.par_bits.specs.Sets.{Set, has}
-use Rattle.par_table_laws.specs.Inferred.{inferred_among}
+use Rattle.par_program_laws.specs.Inferred.{inferred_among}
 use Rattle.par_infer.proofs.Noted.{Goes, goes_on, own, own_few, own_noted, own_left, fields_left}
 use Rattle.par_infer.proofs.numbers.with_fields.Goals as goal
 use Rattle.par_infer.proofs.numbers.with_fields.Goals.{then-field, else-field}

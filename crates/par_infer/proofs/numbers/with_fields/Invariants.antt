@@ -1,6 +1,6 @@
 use Rattle.std.proofs.Common.{drop}
 use Rattle.par_bits.specs.Sets.{has}
-use Rattle.par_table_laws.specs.Inferred.{inferred_among}
+use Rattle.par_program_laws.specs.Inferred.{inferred_among}
 use Rattle.par_infer.proofs.Noted.{Goes}
 use Rattle.par_infer.proofs.numbers.with_fields.Given as goal
 

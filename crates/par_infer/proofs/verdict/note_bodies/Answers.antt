@@ -2,8 +2,8 @@ use Rattle.std.proofs.Common.{List, ◌∷◌, map, length, drop, ◌+◌, ◌<�
 use Rattle.par_typed.specs.declared.table.Table.{Table}
 use Rattle.par_typed.specs.Plain.{Body}
 use Rattle.par_typed.specs.Shown.{body, bodies}
-use Rattle.par_flow_laws.specs.Lattice.{numbers}
-use Rattle.par_flow_laws.specs.Facts.{Facts}
+use Rattle.par_program_laws.specs.Lattice.{numbers}
+use Rattle.par_program_laws.specs.Facts.{Facts}
 use Rattle.par_infer.specs.par_check_laws.Checks.{checks}
 use Rattle.par_reached.specs.Reached.{set_at}
 use Rattle.par_check.specs.Told.{AreBroken}

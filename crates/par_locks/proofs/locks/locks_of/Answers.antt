@@ -3,7 +3,7 @@ use Rattle.par_typed.specs.Shown.{body, bodies}
 use Rattle.par_rounds.specs.par_pass_laws.Written.{table as by_point}
 use Rattle.par_rounds.specs.par_ways.Seen.{seen_facts}
 use Rattle.par_rounds.specs.Bodies.{AreLeastClosed}
-use Rattle.par_flow_laws.specs.Orderly.{IsOrderlyBody}
+use Rattle.par_program_laws.specs.Orderly.{IsOrderlyBody}
 use Rattle.par_locks.specs.Open.{entering}
 use Rattle.par_rounds.proofs.Program.{all_at, same_body}
 use Rattle.par_locks.proofs.locks.locks_of.Goals as goal

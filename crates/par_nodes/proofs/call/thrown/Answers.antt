@@ -1,11 +1,11 @@
 use Rattle.std.proofs.Common.{rules, ◌-◌, get_or, Some, ap, sym, ◌∙◌}
-use Rattle.par_flow_laws.specs.Declares.{declares, method_of, throws_of}
-use Rattle.par_flow_laws.specs.Body.{thrown}
+use Rattle.par_program_laws.specs.Declares.{declares, method_of, throws_of}
+use Rattle.par_program_laws.specs.Body.{thrown}
 use Rattle.par_nodes.specs.Seen.{seen_rules, seen_start, tested}
 use Rattle.par_nodes.proofs.Rows.{drop_zero, thrown_at}
 use Rattle.par_typed.specs.declared.table.ThrowInfo.{ThrowInfo}
-use Rattle.par_flow_laws.specs.Kinds.{Throw}
-use Rattle.par_flow_laws.specs.Rules.{Leaves, Shut, Raised}
+use Rattle.par_program_laws.specs.Kinds.{Throw}
+use Rattle.par_program_laws.specs.Rules.{Leaves, Shut, Raised}
 use Rattle.par_nodes.proofs.call.thrown.Goals as goal
 
 pub loop-place-preserved : goal.loop-place-preserved

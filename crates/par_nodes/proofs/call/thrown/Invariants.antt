@@ -1,6 +1,6 @@
 use Rattle.std.proofs.Common.{◌≡◌, Some, drop}
-use Rattle.par_flow_laws.specs.Declares.{declares, method_of, throws_of}
-use Rattle.par_flow_laws.specs.Body.{thrown}
+use Rattle.par_program_laws.specs.Declares.{declares, method_of, throws_of}
+use Rattle.par_program_laws.specs.Body.{thrown}
 use Rattle.par_nodes.specs.Seen.{seen_rules, seen_start, tested}
 use Rattle.par_nodes.proofs.call.thrown.Given as goal
 

@@ -1,9 +1,9 @@
 use Rattle.std.proofs.Common.{rules, refl, sym}
 use Rattle.std.proofs.lemmas.Result.{IfOk-weaker}
 use Rattle.par_typed.specs.Shown.{all_shown, mark_of, receiver, shown}
-use Rattle.par_flow_laws.specs.Declares.{declares}
-use Rattle.par_flow_laws.specs.Rules.{Done, goes_on}
-use Rattle.par_flow_laws.specs.Body.{past, second}
+use Rattle.par_program_laws.specs.Declares.{declares}
+use Rattle.par_program_laws.specs.Rules.{Done, goes_on}
+use Rattle.par_program_laws.specs.Body.{past, second}
 use Rattle.par_nodes.specs.Seen.{seen_rules, seen_start}
 use Rattle.par_nodes.specs.Starts.{call_does, call_start}
 use Rattle.par_nodes.proofs.Rows.{args_next, args_none}

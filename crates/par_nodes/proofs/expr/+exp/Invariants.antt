@@ -1,7 +1,7 @@
 use Rattle.std.proofs.Common.{◌≡◌, drop}
 use Rattle.par_typed.specs.Shown.{all_shown}
-use Rattle.par_flow_laws.specs.Declares.{declares}
-use Rattle.par_flow_laws.specs.Body.{args}
+use Rattle.par_program_laws.specs.Declares.{declares}
+use Rattle.par_program_laws.specs.Body.{args}
 use Rattle.par_nodes.specs.Seen.{seen_rules, seen_start}
 use Rattle.par_nodes.specs.Starts.{start_at}
 use Rattle.par_nodes.proofs.expr.+exp.Given as goal

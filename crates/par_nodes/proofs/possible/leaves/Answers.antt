@@ -1,5 +1,5 @@
 use Rattle.std.proofs.Common.{ap, sym, ◌∙◌}
-use Rattle.par_flow_laws.specs.Kinds.{same}
+use Rattle.par_program_laws.specs.Kinds.{same}
 use Rattle.par_nodes.specs.Seen.{seen_kind}
 use Rattle.par_nodes.specs.Possible.{among, either, if_so}
 use Rattle.par_nodes.proofs.possible.leaves.Goals as goal

@@ -1,12 +1,12 @@
 use Rattle.std.proofs.Common.{rules, arith, refl, ap, ◌∙◌, drop, length}
 use Rattle.std.proofs.lemmas.Result.{IfOk-weaker}
-use Rattle.par_flow_laws.specs.Declares.{declares}
-use Rattle.par_flow_laws.specs.Kinds.{Next}
-use Rattle.par_flow_laws.specs.Rules.{Entry, Part}
+use Rattle.par_program_laws.specs.Declares.{declares}
+use Rattle.par_program_laws.specs.Kinds.{Next}
+use Rattle.par_program_laws.specs.Rules.{Entry, Part}
 use Rattle.par_nodes.specs.Seen.{seen_rules, seen_node, seen_origin, seen_start}
 use Rattle.par_typed.specs.declared.stmt.TStmtKind.TheViews.{the_lemmas}
 use Rattle.par_typed.specs.Shown.{all_do, does}
-use Rattle.par_flow_laws.specs.Body.{sta, stas, tested}
+use Rattle.par_program_laws.specs.Body.{sta, stas, tested}
 use Rattle.par_nodes.proofs.Forms.{forms}
 use Rattle.par_nodes.proofs.Branches.{stas_none, stas_next, catches_none, catches_next}
 use Rattle.par_nodes.proofs.Statements.{block_made, if_made, while_made, looped, try_made}

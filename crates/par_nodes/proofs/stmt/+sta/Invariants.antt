@@ -1,8 +1,8 @@
 use Rattle.std.proofs.Common.{◌≡◌, drop}
 use Rattle.par_typed.specs.Shown.{all_do, all_catch}
-use Rattle.par_flow_laws.specs.Declares.{declares}
-use Rattle.par_flow_laws.specs.Rules.{Entry, goes_on}
-use Rattle.par_flow_laws.specs.Body.{past, stas, catches}
+use Rattle.par_program_laws.specs.Declares.{declares}
+use Rattle.par_program_laws.specs.Rules.{Entry, goes_on}
+use Rattle.par_program_laws.specs.Body.{past, stas, catches}
 use Rattle.par_nodes.specs.Seen.{seen_rules, seen_node}
 use Rattle.par_nodes.specs.Starts.{start_at}
 use Rattle.par_nodes.proofs.stmt.+sta.Given as goal

@@ -4,7 +4,7 @@ use Rattle.par_lexer.specs.declared.token.Token.{Token}
 use Rattle.par_grammar.specs.Grammar.{name}
 use Rattle.par_grammar.specs.Derivation.{Input, whole}
 use Rattle.par_grammar.proofs.Total.{decided}
-use Rattle.par_stmts.specs.par_language_laws.Reads.{Reads}
+use Rattle.par_stmts.specs.par_reader.SourceLanguage.{Reads}
 use Rattle.par_stmts.specs.par_reader.declared.error.ParseError.{ParseError}
 use Rattle.par_stmts.specs.par_reader.declared.error.ParseError.TheVariants.{Memory}
 use Rattle.par_stmts.specs.par_reader.Reads.{fault_of}

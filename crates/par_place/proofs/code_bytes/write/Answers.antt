@@ -3,8 +3,8 @@ use Rattle.std.specs.Prelude.{ℤ, slice_index}
 use Rattle.std.specs.Int.{w16}
 use Rattle.std.proofs.lemmas.Int.{to_z-of_z}
 use Rattle.std.proofs.lemmas.List.{get_or_default}
-use Rattle.par_place_laws.specs.Instructions.{instruction}
-use Rattle.par_place_laws.specs.Placed.{distance}
+use Rattle.par_code_form.specs.Instructions.{instruction}
+use Rattle.par_code_form.specs.Placed.{distance}
 use Rattle.par_place.proofs.Written.{written_more}
 use Rattle.par_place.proofs.code_bytes.write.Goals as goal
 

@@ -1,5 +1,5 @@
 use Rattle.std.proofs.Common.{refl}
-use Rattle.par_place_laws.specs.Named.{full_name, member_form}
+use Rattle.par_code_form.specs.PoolNames.{full_name, member_form}
 use Rattle.par_place.proofs.Growth.{member_renamed}
 use Rattle.par_place.proofs.named.index_of.Goals as goal
 

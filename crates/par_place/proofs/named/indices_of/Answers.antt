@@ -1,6 +1,6 @@
 use Rattle.std.proofs.Common.{sym, subst}
 use Rattle.std.proofs.lemmas.List.Elements.{All-get_or}
-use Rattle.par_place_laws.specs.Placeable.{FitsItem}
+use Rattle.par_code_form.specs.Placeable.{FitsItem}
 use Rattle.par_place.proofs.Indices.{named_within, named_more, room_left}
 use Rattle.par_place.proofs.named.indices_of.Goals as goal
 

@@ -1,6 +1,6 @@
 use Rattle.std.proofs.Common.{refl, ◌∙◌}
 use Rattle.par_pool.specs.declared.constant.Constant.TheVariants.{Field}
-use Rattle.par_place_laws.specs.Named.{LOCKS, LOCK_TYPE, lock_field}
+use Rattle.par_code_form.specs.PoolNames.{LOCKS, LOCK_TYPE, lock_field}
 use Rattle.par_place.proofs.Growth.{member_renamed}
 use Rattle.par_place.proofs.named.lock_index.Goals as goal
 

@@ -1,7 +1,7 @@
 use Rattle.std.proofs.Common.{refl, sym, ◌∙◌}
 use Rattle.std.proofs.lemmas.Bool.{lt-ltb, le-ltb}
 use Rattle.par_pool.specs.declared.constant.Constant.TheVariants.{Field, Method}
-use Rattle.par_place_laws.specs.Named.{full_name, member_form}
+use Rattle.par_code_form.specs.PoolNames.{full_name, member_form}
 use Rattle.par_place.proofs.Growth.{field_form, method_form, member_renamed}
 use Rattle.par_place.proofs.named.member_index.Goals as goal
 

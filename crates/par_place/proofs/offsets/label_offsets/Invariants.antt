@@ -1,6 +1,6 @@
 use Rattle.std.proofs.Common.{◌≤◌, take}
 use Rattle.std.specs.Prelude.{sum_by}
-use Rattle.par_place_laws.specs.Placeable.{most_bytes}
+use Rattle.par_code_form.specs.Placeable.{most_bytes}
 use Rattle.par_place.specs.Offsets.{AreSmall}
 use Rattle.par_place.proofs.Marking.{AreMarked}
 use Rattle.par_place.proofs.offsets.label_offsets.Given as goal

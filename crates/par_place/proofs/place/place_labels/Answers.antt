@@ -1,8 +1,8 @@
 use Rattle.std.proofs.Common.{length, sym, ap, subst, ◌∙◌, arith}
 use Rattle.std.specs.Prelude.{All}
 use Rattle.std.proofs.lemmas.Slice.Zip.{AllZip-long}
-use Rattle.par_place_laws.specs.Named.{Names, IsConstantOf, entry_count}
-use Rattle.par_place_laws.specs.Placeable.{HasTarget, FitsHandler}
+use Rattle.par_code_form.specs.PoolNames.{Names, IsConstantOf, entry_count}
+use Rattle.par_code_form.specs.Placeable.{HasTarget, FitsHandler}
 use Rattle.par_place.specs.Offsets.{HasOffset, HasLabels}
 use Rattle.par_place.proofs.Whole.{targets_within, all_labels_within, whole_added, drafted}
 use Rattle.par_place.proofs.Whole.{placed_at, spelled_code, few_entries}

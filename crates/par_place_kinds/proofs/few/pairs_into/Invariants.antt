@@ -1,7 +1,7 @@
 use Rattle.std.proofs.Common.{◌≡◌, take, true}
 use Rattle.std.specs.Prelude.{IfSome}
 use Rattle.par_kinds.specs.Kinds.{into, kind_at}
-use Rattle.par_frame_pass_laws.specs.Passes.{all_into}
+use Rattle.par_kinds.specs.Passes.{all_into}
 use Rattle.par_place_kinds.specs.Marks.{names, kinds_of}
 use Rattle.par_place_kinds.specs.Numbered.{numbered}
 use Rattle.par_place_kinds.proofs.few.pairs_into.Given as goal

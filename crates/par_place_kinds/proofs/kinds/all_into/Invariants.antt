@@ -1,5 +1,5 @@
 use Rattle.std.proofs.Common.{◌≡◌, drop}
-use Rattle.par_frame_pass_laws.specs.Passes.{all_into}
+use Rattle.par_kinds.specs.Passes.{all_into}
 use Rattle.par_place_kinds.specs.Marks.{names, kinds_of}
 use Rattle.par_place_kinds.proofs.kinds.all_into.Given as goal
 

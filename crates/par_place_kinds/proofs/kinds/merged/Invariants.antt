@@ -1,5 +1,5 @@
 use Rattle.std.proofs.Common.{◌≡◌, ◌++◌, drop}
-use Rattle.par_frame_pass_laws.specs.Passes.{merge_all}
+use Rattle.par_kinds.specs.Passes.{merge_all}
 use Rattle.par_place_kinds.specs.Marks.{names, kinds_of}
 use Rattle.par_place_kinds.proofs.kinds.merged.Given as goal
 

@@ -1,7 +1,7 @@
 use Rattle.std.proofs.Common.{◌≤◌, ◌∷◌, [], length}
 use Rattle.par_grammar.specs.Grammar as symbol
-use Rattle.par_language_laws.specs.par_reader.Reads.{input}
-use Rattle.par_language_laws.proofs.par_reader.Alternatives.{Leads}
+use Rattle.par_reader.specs.Reads.{input}
+use Rattle.par_reader.proofs.Alternatives.{Leads}
 use Rattle.par_tree.specs.Grammar as g
 use Rattle.par_tree.specs.Values.{paragon}
 use Rattle.par_tree.proofs.Founded.{founded}

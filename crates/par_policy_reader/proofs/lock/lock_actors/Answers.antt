@@ -1,5 +1,5 @@
 use Rattle.std.proofs.Common.{◌∙◌, ◌∷◌, ap, sym}
-use Rattle.par_language_laws.proofs.par_reader.Alternatives.{building, opens}
+use Rattle.par_reader.proofs.Alternatives.{building, opens}
 use Rattle.par_tree.specs.Grammar as g
 use Rattle.par_tree.specs.Values as value
 use Rattle.par_tree.specs.Values.{paragon}

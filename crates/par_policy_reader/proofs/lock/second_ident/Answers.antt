@@ -1,5 +1,5 @@
 use Rattle.std.proofs.Common.{◌∙◌, refl, sym}
-use Rattle.par_language_laws.proofs.par_reader.Alternatives.{keeping, opens}
+use Rattle.par_reader.proofs.Alternatives.{keeping, opens}
 use Rattle.par_tree.specs.Values.{paragon}
 use Rattle.par_tree.proofs.Founded.{founded}
 use Rattle.par_policy_reader.proofs.lock.second_ident.Goals as goal

@@ -2,9 +2,9 @@ use Rattle.std.proofs.Common.{◌∙◌, ◌∷◌, [], arith, refl, sym}
 use Rattle.par_grammar.specs.Grammar as symbol
 use Rattle.par_grammar.specs.declared.sort.Sort.TheVariants as sort
 use Rattle.par_lexer.specs.declared.sign.TheConstants as signs
-use Rattle.par_language_laws.specs.par_reader.Reads.{input}
-use Rattle.par_language_laws.proofs.par_reader.Alternatives.{again, continued, fails_again, handed}
-use Rattle.par_language_laws.proofs.par_reader.Alternatives.{keeping, opens}
+use Rattle.par_reader.specs.Reads.{input}
+use Rattle.par_reader.proofs.Alternatives.{again, continued, fails_again, handed}
+use Rattle.par_reader.proofs.Alternatives.{keeping, opens}
 use Rattle.par_tree.specs.Grammar as g
 use Rattle.par_tree.specs.Values.{paragon}
 use Rattle.par_tree.proofs.Founded.{founded}

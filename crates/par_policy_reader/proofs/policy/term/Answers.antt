@@ -1,5 +1,5 @@
 use Rattle.std.proofs.Common.{◌∙◌, sym}
-use Rattle.par_language_laws.proofs.par_reader.Alternatives.{opens, refuses}
+use Rattle.par_reader.proofs.Alternatives.{opens, refuses}
 use Rattle.par_tree.specs.Values.{paragon}
 use Rattle.par_tree.proofs.Founded.{founded}
 use Rattle.par_policy_reader.proofs.policy.term.Goals as goal

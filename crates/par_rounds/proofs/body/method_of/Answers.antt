@@ -1,7 +1,7 @@
 use Rattle.std.proofs.Common.{sym, ap}
 use Rattle.par_typed.specs.Shown as shown
-use Rattle.par_flow_laws.specs.Orderly.{locals_of}
-use Rattle.par_flow_laws.proofs.Methods.{method_known}
+use Rattle.par_program_laws.specs.Orderly.{locals_of}
+use Rattle.par_program_laws.proofs.Methods.{method_known}
 use Rattle.par_rounds.proofs.Methods.{orderly}
 use Rattle.par_rounds.proofs.body.method_of.Goals as goal
 

@@ -1,10 +1,10 @@
 use Rattle.std.proofs.Common.{◌≡◌, Some, length, subst, sym, ap, ◌∙◌, arith, All, ◌<◌}
 use Rattle.par_typed.specs.Shown.{body as shown, does}
-use Rattle.par_flow_laws.specs.Body.{sta}
-use Rattle.par_flow_laws.specs.Lattice.{numbers}
-use Rattle.par_flow_laws.specs.Closed.{first}
-use Rattle.par_flow_laws.specs.Declares.{declares, method_of}
-use Rattle.par_flow_laws.specs.Ranges.{AreLocks, MOST}
+use Rattle.par_program_laws.specs.Body.{sta}
+use Rattle.par_program_laws.specs.Lattice.{numbers}
+use Rattle.par_program_laws.specs.Closed.{first}
+use Rattle.par_program_laws.specs.Declares.{declares, method_of}
+use Rattle.par_program_laws.specs.Ranges.{AreLocks, MOST}
 use Rattle.par_pass_laws.specs.par_except.Seen.{seen}
 use Rattle.par_rounds.specs.Passes.{IsPassable}
 use Rattle.par_rounds.specs.Rounds.{IsSettled}

@@ -3,15 +3,15 @@ use Rattle.std.proofs.Common.{[], Some, length, refl, sym, ap, ◌∙◌, subst,
 use Rattle.par_typed.specs.declared.expr.TExprKind.TheViews.{the_lemmas}
 use Rattle.par_typed.specs.Shown.{all_shown, receiver, shown, mark_of}
 use Rattle.par_typed.proofs.Shown.{shown_mark}
-use Rattle.par_flow_laws.specs.Body.{args, exp, past, second}
-use Rattle.par_flow_laws.specs.Declares.{declares}
-use Rattle.par_flow_laws.specs.Kinds.{Next, absorbed}
-use Rattle.par_flow_laws.specs.Lattice.{numbers}
-use Rattle.par_flow_laws.specs.Rules.{Entry, Done, Part, Rules, goes_on, spot, way}
+use Rattle.par_program_laws.specs.Body.{args, exp, past, second}
+use Rattle.par_program_laws.specs.Declares.{declares}
+use Rattle.par_program_laws.specs.Kinds.{Next, absorbed}
+use Rattle.par_program_laws.specs.Lattice.{numbers}
+use Rattle.par_program_laws.specs.Rules.{Entry, Done, Part, Rules, goes_on, spot, way}
 use Rattle.par_nodes.specs.Seen.{seen_origin, seen_start}
 use Rattle.par_nodes.specs.Starts.{call_does, call_start}
 use Rattle.par_nodes.specs.Starts.{behind as behind_of}
-use Rattle.par_flow_laws.specs.Ranges.{IsFromInRange}
+use Rattle.par_program_laws.specs.Ranges.{IsFromInRange}
 use Rattle.par_nodes.proofs.Forms.{seen_ends, seen_gives}
 use Rattle.par_nodes.proofs.Expressions.{field_made, output_made, call_made, unary_made}
 use Rattle.par_nodes.proofs.Expressions.{binary_made}

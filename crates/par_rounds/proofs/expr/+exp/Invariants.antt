@@ -1,4 +1,4 @@
-use Rattle.par_flow_laws.specs.Declares.{declares}
+use Rattle.par_program_laws.specs.Declares.{declares}
 use Rattle.par_nodes.specs.Seen.{seen_start}
 use Rattle.par_ways.specs.Seen.{ways_of}
 use Rattle.par_rounds.specs.Passes.{AreArgsAlong}

@@ -2,8 +2,8 @@
 use Rattle.std.proofs.Common.{◌≡◌, subst, refl, length}
 use Rattle.par_bits.specs.Sets.{has}
 use Rattle.par_typed.specs.Shown.{mark_of}
-use Rattle.par_flow_laws.specs.Declares.{declares}
-use Rattle.par_flow_laws.specs.Rules.{Given, Held, Node}
+use Rattle.par_program_laws.specs.Declares.{declares}
+use Rattle.par_program_laws.specs.Rules.{Given, Held, Node}
 use Rattle.par_nodes.proofs.Expressions.{int_made, bool_made, nullary_made, new_made, local_made}
 use Rattle.par_nodes.proofs.Expressions.{static_made, input_made}
 use Rattle.par_pass_laws.specs.par_except.Seen.{seen}

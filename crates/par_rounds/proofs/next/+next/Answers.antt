@@ -1,6 +1,6 @@
 use Rattle.std.proofs.Common.{ap, ◌∙◌}
-use Rattle.par_flow_laws.specs.Kinds.{Normal}
-use Rattle.par_flow_laws.specs.Numbered.{next_by}
+use Rattle.par_program_laws.specs.Kinds.{Normal}
+use Rattle.par_program_laws.specs.Numbered.{next_by}
 use Rattle.par_nodes.specs.Seen.{seen_kind, seen_origin, seen_worth, seen_absorber, seen_rules}
 use Rattle.par_nodes.specs.Seen.{seen_node}
 use Rattle.par_rounds.proofs.Trees.{is_done, is_part, is_test, is_heads, is_leaves, is_worths}

@@ -1,6 +1,6 @@
 use Rattle.std.proofs.Common.{sym}
 use Rattle.std.proofs.lemmas.Result.{IfOk-weaker}
-use Rattle.par_flow_laws.specs.Declares.{declares}
+use Rattle.par_program_laws.specs.Declares.{declares}
 use Rattle.par_rounds.proofs.Nexts.{block_next}
 use Rattle.par_rounds.proofs.next.+points_of.Goals as goal
 

@@ -2,10 +2,10 @@
 use Rattle.std.proofs.Common.{Some, [], length, refl, sym, ap, ◌∙◌, subst, rules}
 use Rattle.std.proofs.lemmas.Result.{IfOk-weaker}
 use Rattle.par_nodes.specs.declared.rule.Rules.TheViews.{the_lemmas}
-use Rattle.par_flow_laws.specs.Kinds.{Normal, normal, absorbed}
-use Rattle.par_flow_laws.specs.Lattice.{numbers}
-use Rattle.par_flow_laws.specs.Ranges.{IsFromInRange, IsWorthInRange}
-use Rattle.par_flow_laws.specs.Rules.{way, Done, Worths}
+use Rattle.par_program_laws.specs.Kinds.{Normal, normal, absorbed}
+use Rattle.par_program_laws.specs.Lattice.{numbers}
+use Rattle.par_program_laws.specs.Ranges.{IsFromInRange, IsWorthInRange}
+use Rattle.par_program_laws.specs.Rules.{way, Done, Worths}
 use Rattle.par_nodes.specs.Seen.{seen_kind, seen_origin, seen_worth, seen_absorber, seen_rules}
 use Rattle.par_nodes.specs.Seen.{seen_node}
 use Rattle.par_pass_laws.specs.par_except.Seen.{seen, HasLocals, MayHaveLocals}

@@ -1,7 +1,7 @@
 use Rattle.std.proofs.Common.{Some, [], ap, ◌∙◌}
 use Rattle.par_bits.specs.Sets.{has, union}
-use Rattle.par_flow_laws.specs.Lattice.{numbers}
-use Rattle.par_flow_laws.specs.Rules.{worth}
+use Rattle.par_program_laws.specs.Lattice.{numbers}
+use Rattle.par_program_laws.specs.Rules.{worth}
 use Rattle.par_nodes.specs.Seen.{seen_worth}
 use Rattle.par_pass_laws.specs.par_except.Seen.{seen}
 use Rattle.par_ways.specs.Seen.{latest_first}

@@ -1,7 +1,7 @@
 use Rattle.std.proofs.Common.{length}
 use Rattle.par_typed.specs.Shown.{does}
-use Rattle.par_flow_laws.specs.Body.{sta}
-use Rattle.par_flow_laws.specs.Declares.{declares}
+use Rattle.par_program_laws.specs.Body.{sta}
+use Rattle.par_program_laws.specs.Declares.{declares}
 use Rattle.par_pass_laws.specs.par_except.Seen.{seen}
 use Rattle.par_rounds.specs.Took.{total}
 use Rattle.par_rounds.specs.Rounds.{AreAfter}

@@ -1,8 +1,8 @@
 use Rattle.std.proofs.Common.{length, subst, sym}
 use Rattle.std.proofs.lemmas.Bool.{not-true}
 use Rattle.par_typed.specs.Shown.{does}
-use Rattle.par_flow_laws.specs.Body.{sta}
-use Rattle.par_flow_laws.specs.Declares.{declares}
+use Rattle.par_program_laws.specs.Body.{sta}
+use Rattle.par_program_laws.specs.Declares.{declares}
 use Rattle.par_pass_laws.specs.par_except.Seen.{seen}
 use Rattle.par_pass_laws.specs.Pass.{pass}
 use Rattle.par_ways.specs.Seen.{ways_of, AreHeadsWide}

@@ -4,12 +4,12 @@ use Rattle.par_typed.specs.declared.stmt.TStmtKind.TheViews.{the_lemmas}
 use Rattle.par_typed.specs.Shown.{does, otherwise, shown}
 use Rattle.par_typed.specs.declared.stmt.TStmt.{TStmt}
 use Rattle.par_typed.proofs.Shown.{does_point}
-use Rattle.par_flow_laws.specs.Body.{exp, past, tested, sta, if_not, is_forever}
-use Rattle.par_flow_laws.specs.Declares.{declares}
-use Rattle.par_flow_laws.specs.Kinds.{Next, Loop, Normal, absorbed}
-use Rattle.par_flow_laws.specs.Lattice.{numbers}
-use Rattle.par_flow_laws.specs.Rules.{Entry, After, Tested, Rules, Done, Part, Heads}
-use Rattle.par_flow_laws.specs.Rules.{goes_on, spot, way}
+use Rattle.par_program_laws.specs.Body.{exp, past, tested, sta, if_not, is_forever}
+use Rattle.par_program_laws.specs.Declares.{declares}
+use Rattle.par_program_laws.specs.Kinds.{Next, Loop, Normal, absorbed}
+use Rattle.par_program_laws.specs.Lattice.{numbers}
+use Rattle.par_program_laws.specs.Rules.{Entry, After, Tested, Rules, Done, Part, Heads}
+use Rattle.par_program_laws.specs.Rules.{goes_on, spot, way}
 use Rattle.par_nodes.specs.Starts.{goes_first, else_rules}
 use Rattle.par_nodes.specs.Seen.{seen_absorber, seen_origin, seen_start}
 use Rattle.par_nodes.proofs.Forms.{seen_ends}

@@ -1,4 +1,4 @@
-use Rattle.par_flow_laws.specs.Declares.{declares}
+use Rattle.par_program_laws.specs.Declares.{declares}
 use Rattle.par_ways.specs.Seen.{ways_of}
 use Rattle.par_rounds.specs.Passes.{IsAlong}
 use Rattle.par_rounds.proofs.stmt.+sta.Given as goal

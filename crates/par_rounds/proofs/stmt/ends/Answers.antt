@@ -1,9 +1,9 @@
 use Rattle.std.proofs.Common.{length, refl, sym, subst}
 use Rattle.par_typed.specs.Shown.{shown}
-use Rattle.par_flow_laws.specs.Body.{exp, past}
-use Rattle.par_flow_laws.specs.Declares.{declares}
-use Rattle.par_flow_laws.specs.Kinds.{Next, absorbed}
-use Rattle.par_flow_laws.specs.Rules.{Entry, Rules, Done, Part, goes_on}
+use Rattle.par_program_laws.specs.Body.{exp, past}
+use Rattle.par_program_laws.specs.Declares.{declares}
+use Rattle.par_program_laws.specs.Kinds.{Next, absorbed}
+use Rattle.par_program_laws.specs.Rules.{Entry, Rules, Done, Part, goes_on}
 use Rattle.par_nodes.specs.Seen.{assigned}
 use Rattle.par_nodes.proofs.Forms.{seen_ends}
 use Rattle.par_pass_laws.specs.par_except.Seen.{seen}

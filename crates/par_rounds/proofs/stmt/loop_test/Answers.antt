@@ -1,9 +1,9 @@
 use Rattle.std.proofs.Common.{Some, sym, ap, ◌∙◌}
 use Rattle.par_typed.specs.Shown.{shown, mark_of}
 use Rattle.par_typed.proofs.Shown.{shown_mark}
-use Rattle.par_flow_laws.specs.Body.{exp}
-use Rattle.par_flow_laws.specs.Declares.{declares}
-use Rattle.par_flow_laws.specs.Kinds.{normal}
+use Rattle.par_program_laws.specs.Body.{exp}
+use Rattle.par_program_laws.specs.Declares.{declares}
+use Rattle.par_program_laws.specs.Kinds.{normal}
 use Rattle.par_ways.specs.Seen.{ways_of}
 use Rattle.par_rounds.proofs.Arms.{took_part}
 use Rattle.par_rounds.proofs.Walks.{exp_spot}

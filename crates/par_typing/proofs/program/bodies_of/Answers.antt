@@ -6,9 +6,9 @@ use Rattle.par_typed.specs.declared.program.TBody.{TBody}
 use Rattle.par_typed.specs.declared.table.Table.{Table}
 use Rattle.par_typed.specs.Shown.{bodies}
 use Rattle.par_scope.specs.Names.{IsFewTable, names_of}
-use Rattle.par_annotation.specs.par_annotation_laws.Stmts.{Written}
-use Rattle.par_annotation.specs.par_annotation_laws.Bodies.{typed_program}
-use Rattle.par_source_table_laws.proofs.par_faults.Within.{limits_kept}
+use Rattle.par_annotation.specs.par_type_rules.TypedStmts.{Written}
+use Rattle.par_annotation.specs.par_type_rules.TypedBodies.{typed_program}
+use Rattle.par_typed_laws.proofs.par_faults.Within.{limits_kept}
 use Rattle.par_typing.proofs.Small.{small_source}
 use Rattle.par_typing.proofs.Tables.{few_table, few_policies}
 use Rattle.par_typing.proofs.Written.{written_is}

@@ -3,7 +3,7 @@ use Rattle.par_tree.specs.Shown.{source}
 use Rattle.par_scope.specs.Names.{IsFewTable}
 use Rattle.par_type_rules.specs.Program.{type_faults}
 use Rattle.par_typing.proofs.First.{answers}
-use Rattle.par_source_table_laws.proofs.par_faults.Within.{limits_kept}
+use Rattle.par_typed_laws.proofs.par_faults.Within.{limits_kept}
 use Rattle.par_typing.proofs.Tables.{few_table}
 use Rattle.par_typing.proofs.program.first_broken.Goals as goal
 

@@ -3,7 +3,7 @@ use Rattle.std.proofs.lemmas.List.{take_at}
 use Rattle.par_given_frames.specs.par_frames.Given.{frames_said}
 use Rattle.par_frame_steps.specs.Marks.{kinds_of}
 use Rattle.par_frame_passes.specs.Tables.{table_of}
-use Rattle.par_verify_laws.specs.par_frame_pass_laws.Passes.{start_table}
+use Rattle.par_verify_laws.specs.par_kinds.Passes.{start_table}
 use Rattle.par_verify.specs.Starts.{told_of}
 use Rattle.par_verify.proofs.begun.told_table.Goals as goal
 

@@ -5,7 +5,7 @@ use Rattle.par_single.specs.Descriptors.{kind_of}
 use Rattle.par_single.specs.Walk.{starts_at}
 use Rattle.par_kinds.specs.Linked.{caught_kind}
 use Rattle.par_kinds.specs.Shapes.{act_of, shape_at}
-use Rattle.par_verify_laws.specs.par_frame_pass_laws.Passes.{from_start, start_table, begins_as}
+use Rattle.par_verify_laws.specs.par_kinds.Passes.{from_start, start_table, begins_as}
 use Rattle.par_frame_steps.specs.Marks.{names, frame_of}
 use Rattle.par_frame_passes.specs.Tables.{table_of}
 use Rattle.par_verify.proofs.Starting.{first_put, put-many}

@@ -1,6 +1,6 @@
 use Rattle.std.proofs.Common.{◌≡◌, drop}
 use Rattle.par_kinds.specs.Fits.{Given}
-use Rattle.par_verify_laws.specs.par_frame_pass_laws.Passes.{are_sized}
+use Rattle.par_verify_laws.specs.par_kinds.Passes.{are_sized}
 use Rattle.par_frame_passes.specs.par_frame_guesses.Methods.{code_in, IsToldOf}
 use Rattle.par_frame_passes.specs.Tables.{table_of}
 use Rattle.par_verify.proofs.sizes.are_sized.Given as goal

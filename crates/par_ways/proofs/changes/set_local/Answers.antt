@@ -1,9 +1,9 @@
 use Rattle.std.proofs.Common.{◌≡◌, ap, ◌∙◌, []}
 use Rattle.std.proofs.lemmas.Result.{IfOk-weaker}
 use Rattle.par_bits.specs.Sets.{has, union}
-use Rattle.par_flow_laws.specs.Lattice.{numbers}
-use Rattle.par_flow_laws.specs.Rules.{part_at}
-use Rattle.par_flow_laws.specs.Ways.{assigned}
+use Rattle.par_program_laws.specs.Lattice.{numbers}
+use Rattle.par_program_laws.specs.Rules.{part_at}
+use Rattle.par_program_laws.specs.Ways.{assigned}
 use Rattle.par_pass_laws.specs.par_except.Seen.{seen}
 use Rattle.par_ways.specs.Seen.{latest_first}
 use Rattle.par_ways.proofs.Envs.{assigned_held}

@@ -1,5 +1,5 @@
 use Rattle.std.proofs.Common.{◌≡◌, ℕ, drop}
-use Rattle.par_flow_laws.specs.Kinds.{absorbed}
+use Rattle.par_program_laws.specs.Kinds.{absorbed}
 use Rattle.par_nodes.specs.Seen.{seen_absorber}
 use Rattle.par_pass_laws.specs.Exits.{all, leaving}
 use Rattle.par_ways.specs.Seen.{seen_exits, AreWide}

@@ -1,7 +1,7 @@
 use Rattle.std.proofs.Common.{rules, arith, Some, ◌≡◌, length}
-use Rattle.par_flow_laws.specs.Lattice.{numbers}
-use Rattle.par_flow_laws.specs.Declares.{method_of, params_of}
-use Rattle.par_flow_laws.specs.Closed.{locals as entering}
+use Rattle.par_program_laws.specs.Lattice.{numbers}
+use Rattle.par_program_laws.specs.Declares.{method_of, params_of}
+use Rattle.par_program_laws.specs.Closed.{locals as entering}
 use Rattle.par_ways.proofs.Firsts.{env_push, env_whole, entering_past}
 use Rattle.par_ways.proofs.first.first_env.Goals as goal
 

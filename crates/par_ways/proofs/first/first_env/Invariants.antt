@@ -1,7 +1,7 @@
 use Rattle.std.proofs.Common.{◌≡◌, ℕ, ◌<◌, length}
-use Rattle.par_flow_laws.specs.Lattice.{numbers}
-use Rattle.par_flow_laws.specs.Declares.{params_of}
-use Rattle.par_flow_laws.specs.Closed.{locals as entering}
+use Rattle.par_program_laws.specs.Lattice.{numbers}
+use Rattle.par_program_laws.specs.Declares.{params_of}
+use Rattle.par_program_laws.specs.Closed.{locals as entering}
 use Rattle.par_pass_laws.specs.par_except.Seen.{locals}
 use Rattle.par_ways.proofs.first.first_env.Given as goal
 

@@ -2,7 +2,7 @@ use Rattle.std.proofs.Common.{length, refl, ap, ◌∙◌, arith}
 use Rattle.std.specs.Prelude.{slice_get}
 use Rattle.par_typed.specs.declared.table.Table.{Table}
 use Rattle.par_bits.specs.Sets.{adding}
-use Rattle.par_asked.specs.par_flow_laws.Lattice.{seen_by}
+use Rattle.par_asked.specs.par_program_laws.Lattice.{seen_by}
 use Rattle.par_check.proofs.Joins.{asked_one, past_below}
 use Rattle.par_check.proofs.policies.Policies.is_number_below.Goals as goal
 

@@ -1,6 +1,6 @@
 use Rattle.std.proofs.Common.{◌≡◌, ◌∙◌, List, true, sym, ap}
 use Rattle.par_kinds.specs.declared.frame.VKind.{VKind}
-use Rattle.par_frame_pass_laws.specs.Passes.{all_into}
+use Rattle.par_kinds.specs.Passes.{all_into}
 use Rattle.par_place_kinds.proofs.Numbered.{all_same}
 use Rattle.par_frame_steps.specs.Marks.{names}
 use Rattle.par_frame_steps.proofs.fits.Fits.fit.Goals as goal

@@ -1,6 +1,6 @@
 use Rattle.std.proofs.Common.{◌≡◌, List, true, sym, subst}
 use Rattle.par_values.specs.Areas.{Name}
-use Rattle.par_frame_pass_laws.specs.Passes.{all_into}
+use Rattle.par_kinds.specs.Passes.{all_into}
 use Rattle.par_frame_steps.proofs.Merged.{fits_set, fits_more}
 use Rattle.par_frame_steps.proofs.fits.Fits.keep.Goals as goal
 

@@ -1,6 +1,6 @@
 use Rattle.std.proofs.Common.{◌≡◌, List, sym, subst}
 use Rattle.par_values.specs.Areas.{Name}
-use Rattle.par_frame_pass_laws.specs.Passes.{merge_all}
+use Rattle.par_kinds.specs.Passes.{merge_all}
 use Rattle.par_frame_steps.specs.Marks.{kinds_of}
 use Rattle.par_frame_steps.proofs.Merged.{merges_set}
 use Rattle.par_frame_steps.proofs.merges.Merges.put.Goals as goal

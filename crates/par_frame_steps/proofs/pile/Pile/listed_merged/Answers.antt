@@ -1,6 +1,6 @@
 use Rattle.std.proofs.Common.{◌≡◌, ℕ, ◌∙◌, List, length, take, ap}
 use Rattle.std.proofs.lemmas.Result.{IfOk-weaker}
-use Rattle.par_frame_pass_laws.specs.Passes.{merge_all}
+use Rattle.par_kinds.specs.Passes.{merge_all}
 use Rattle.par_place_kinds.specs.declared.kind.PlaceKind.{PlaceKind}
 use Rattle.par_frame_steps.specs.Marks.{names, kinds_of}
 use Rattle.par_frame_steps.proofs.Parts.{merge_first}

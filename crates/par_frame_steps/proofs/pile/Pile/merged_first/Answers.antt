@@ -1,6 +1,6 @@
 use Rattle.std.proofs.Common.{◌≡◌, ◌∙◌, List, length, ap, sym}
 use Rattle.std.proofs.lemmas.Result.{IfOk-weaker}
-use Rattle.par_frame_pass_laws.specs.Passes.{merge_all}
+use Rattle.par_kinds.specs.Passes.{merge_all}
 use Rattle.par_place_kinds.specs.declared.kind.PlaceKind.{PlaceKind}
 use Rattle.par_frame_steps.specs.Marks.{names, kinds_of}
 use Rattle.par_frame_steps.proofs.pile.Pile.merged_first.Goals as goal

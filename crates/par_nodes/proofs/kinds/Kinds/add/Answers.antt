@@ -1,6 +1,6 @@
 use Rattle.std.proofs.Common.{ap, ◌∙◌}
 use Rattle.std.proofs.lemmas.Result.{on_ok_weaker}
-use Rattle.par_flow_laws.specs.Kinds.{same}
+use Rattle.par_program_laws.specs.Kinds.{same}
 use Rattle.par_nodes.specs.Seen.{seen_kind}
 use Rattle.par_nodes.specs.Possible.{among, either}
 use Rattle.par_nodes.proofs.Completing.{other_added}

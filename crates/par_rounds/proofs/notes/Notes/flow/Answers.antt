@@ -1,7 +1,7 @@
 use Rattle.std.proofs.Common.{None, refl, sym, ap, ◌∙◌, subst}
 use Rattle.std.specs.Prelude.{IsTrue}
-use Rattle.par_flow_laws.specs.Lattice.{numbers}
-use Rattle.par_flow_laws.specs.Ways.{MayFlow}
+use Rattle.par_program_laws.specs.Lattice.{numbers}
+use Rattle.par_program_laws.specs.Ways.{MayFlow}
 use Rattle.par_pass_laws.specs.par_except.Joins.{may_join}
 use Rattle.par_pass_laws.specs.par_except.Seen.{may_see}
 use Rattle.par_ways.specs.Seen.{ways_of}

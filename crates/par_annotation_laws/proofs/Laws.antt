@@ -1,8 +1,0 @@
--- The law of points, of whole bodies.
-use Rattle.par_annotation_laws.specs.Laws.{PointsCount}
-use Rattle.par_annotation_laws.specs.Bodies.{no_frame, with_params}
-use Rattle.par_annotation_laws.proofs.StmtPoints.{typed_braces_counts}
-
-pub points_count : PointsCount
-points_count w home m =
-    typed_braces_counts w home (with_params home (no_frame m.is_static) m.params) 0 m.body

@@ -1,3 +1,0 @@
-pub mod Within
-pub mod Law
-pub use Rattle.par_annotation_laws.specs as par_annotation_laws

@@ -1,0 +1,5 @@
+use Rattle.par_code_laws.proofs.ErasedRuns as whole
+use Rattle.par_code_laws.proofs.erase_laws.plain_fronts_are_fronts.Goals as goal
+
+pub returns : goal.returns
+returns c = whole.plain_fronts_are_fronts

@@ -1,3 +1,0 @@
-pub mod Bridge
-pub use Rattle.par_step_laws.proofs as par_step_laws
-pub use Rattle.par_step_laws.proofs.par_link as par_link

@@ -1,5 +1,0 @@
-use Rattle.par_engine_laws.proofs.Bridge.{turn-same}
-use Rattle.par_engine_laws.proofs.laws.files_turn_as_a_program.Goals as goal
-
-pub returns : goal.returns
-returns c = turn-same

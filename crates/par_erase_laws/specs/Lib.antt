@@ -1,2 +1,0 @@
-pub mod Laws
-pub use Rattle.par_two_run_laws.specs.par_alike as par_alike

@@ -1,2 +1,0 @@
-pub mod Methods
-pub use Rattle.par_typed.proofs as par_typed

@@ -1,1 +1,0 @@
-pub use Rattle.par_frames.proofs as par_frames

@@ -1,5 +1,0 @@
-use Rattle.par_frame_pass_laws.proofs.Least as least
-use Rattle.par_frame_pass_laws.proofs.laws.frames_as_told_are_least.Goals as goal
-
-pub returns : goal.returns
-returns c = least.frames_as_told_are_least

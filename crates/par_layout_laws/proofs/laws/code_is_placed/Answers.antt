@@ -1,5 +1,0 @@
-use Rattle.par_layout_laws.proofs.Placed.{code_is_placed}
-use Rattle.par_layout_laws.proofs.laws.code_is_placed.Goals as goal
-
-pub returns : goal.returns
-returns c = code_is_placed

@@ -1,2 +1,0 @@
-pub mod Laws
-pub use Rattle.par_link_laws.specs as par_link_laws

@@ -1,2 +1,0 @@
-pub use Rattle.par_match_laws.proofs.par_link as par_link
-pub use Rattle.par_match_laws.proofs.par_step_laws as par_step_laws

@@ -1,3 +1,0 @@
-pub mod Met
-pub mod Laws
-pub use Rattle.par_typed_laws.specs as par_typed_laws

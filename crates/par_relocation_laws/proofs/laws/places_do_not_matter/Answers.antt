@@ -1,5 +1,0 @@
-use Rattle.par_relocation_laws.proofs.Placed as placed
-use Rattle.par_relocation_laws.proofs.laws.places_do_not_matter.Goals as goal
-
-pub returns : goal.returns
-returns c = placed.same_turns

@@ -1,5 +1,0 @@
-use Rattle.par_sound_laws.proofs.Whole as whole
-use Rattle.par_sound_laws.proofs.laws.fitting_files_are_never_bad.Goals as goal
-
-pub returns : goal.returns
-returns c = whole.fitting_files_are_never_bad

@@ -1,8 +1,0 @@
-//! What follows where names differ.
-
-ghost use Rattle.par_table_laws.specs.Laws.{NamesStandOnce};
-
-/// A name stands at one place among names of which no two are equal.
-pub fn names_stand_once()
-    ensures { NamesStandOnce }
-{}
