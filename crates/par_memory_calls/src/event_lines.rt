@@ -16,28 +16,49 @@ fn field(alloc: Global) -> Result<Name, Fail> {
 }
 
 fn is_line_of(alloc: Global, event: &Event, text: &[u8]) -> Result<bool, Fail> {
-    Ok(event_line(alloc, event)?.as_slice() == text)
+    let line = event_line(alloc, event)?;
+    let is_this = line.as_slice() == text;
+    drop(line);
+    Ok(is_this)
+}
+
+// Whether an event that nobody asks for again has this line.
+fn is_told(alloc: Global, event: Event, text: &[u8]) -> Result<bool, Fail> {
+    let is_told = is_line_of(alloc, &event, text);
+    drop(event);
+    is_told
 }
 
 fn output_is_told(alloc: Global) -> Result<bool, Fail> {
-    let event = Event::Out(item(alloc)?, field(alloc)?, -5);
-    is_line_of(alloc, &event, b"out Item.f -5\n")
+    let class = item(alloc)?;
+    let channel = field(alloc)?;
+    is_told(alloc, Event::Out(class, channel, -5), b"out Item.f -5\n")
 }
 
 fn static_write_is_told(alloc: Global) -> Result<bool, Fail> {
-    let event = Event::Set(item(alloc)?, field(alloc)?, Val::Null);
-    is_line_of(alloc, &event, b"set Item.f null\n")
+    let class = item(alloc)?;
+    let field = field(alloc)?;
+    is_told(
+        alloc,
+        Event::Set(class, field, Val::Null),
+        b"set Item.f null\n",
+    )
 }
 
 fn write_is_told(alloc: Global) -> Result<bool, Fail> {
-    let value = Val::Ref(item(alloc)?, 12);
-    let event = Event::Put(item(alloc)?, 3, field(alloc)?, value);
-    is_line_of(alloc, &event, b"put Item#3.f Item#12\n")
+    let class = item(alloc)?;
+    let of = item(alloc)?;
+    let field = field(alloc)?;
+    is_told(
+        alloc,
+        Event::Put(class, 3, field, Val::Ref(of, 12)),
+        b"put Item#3.f Item#12\n",
+    )
 }
 
 fn birth_is_told(alloc: Global) -> Result<bool, Fail> {
-    let event = Event::Born(item(alloc)?, 0);
-    is_line_of(alloc, &event, b"new Item#0\n")
+    let class = item(alloc)?;
+    is_told(alloc, Event::Born(class, 0), b"new Item#0\n")
 }
 
 #[test]
@@ -50,12 +71,22 @@ fn each_event_has_its_line(rt: HostRuntime) -> Result<(), Fail> {
 
 fn exception_is_told(alloc: Global) -> Result<bool, Fail> {
     let ending = Ending::Uncaught(item(alloc)?);
-    Ok(ending_line(alloc, &ending)?.as_slice() == b"uncaught Item\n".as_slice())
+    let line = ending_line(alloc, &ending);
+    drop(ending);
+    let line = line?;
+    let is_told = line.as_slice() == b"uncaught Item\n".as_slice();
+    drop(line);
+    Ok(is_told)
 }
 
 fn bad_code_is_told(alloc: Global) -> Result<bool, Fail> {
-    let line = bad_code_line(alloc, &item(alloc)?, b"<init>", 7, 4)?;
-    Ok(line.as_slice() == b"bad code Item.<init> 7 4\n".as_slice())
+    let class = item(alloc)?;
+    let line = bad_code_line(alloc, &class, b"<init>", 7, 4);
+    drop(class);
+    let line = line?;
+    let is_told = line.as_slice() == b"bad code Item.<init> 7 4\n".as_slice();
+    drop(line);
+    Ok(is_told)
 }
 
 #[test]

@@ -32,13 +32,19 @@ fn births_are_numbered_class_by_class(rt: HostRuntime) -> Result<(), Fail> {
 }
 
 // What is read of class 2 after a field of its second object is written.
-fn read_again(alloc: Global) -> Result<bool, NoMemory> {
-    let mut heap = two(alloc)?;
+fn is_read_again(heap: &mut Heap) -> bool {
     let there = heap.set(2, 1, 0, MVal::Null);
     let missing = heap.set(2, 1, 2, MVal::Null) || heap.set(1, 0, 0, MVal::Null);
     let kept = heap.get(2, 0, 0) == Some(MVal::Int(7)) && heap.get(2, 1, 0) == Some(MVal::Null);
     let none = heap.get(2, 2, 0).is_none() && heap.get(3, 0, 0).is_none();
-    Ok(there && !missing && kept && none)
+    there && !missing && kept && none
+}
+
+fn read_again(alloc: Global) -> Result<bool, NoMemory> {
+    let mut heap = two(alloc)?;
+    let is_read = is_read_again(&mut heap);
+    drop(heap);
+    Ok(is_read)
 }
 
 #[test]
@@ -52,7 +58,9 @@ fn a_field_is_read_as_it_was_written(rt: HostRuntime) -> Result<(), Fail> {
 fn are_flat(alloc: Global) -> Result<bool, NoMemory> {
     let heap = two(alloc)?;
     let all = [MVal::Int(7), MVal::Null, MVal::Int(-1), MVal::Ref(2, 0)];
-    Ok(heap.objects(2) == all.as_slice() && heap.objects(1).is_empty())
+    let are_flat = heap.objects(2) == all.as_slice() && heap.objects(1).is_empty();
+    drop(heap);
+    Ok(are_flat)
 }
 
 #[test]
@@ -63,11 +71,17 @@ fn objects_lie_behind_each_other(rt: HostRuntime) -> Result<(), Fail> {
     )
 }
 
-fn statics_keep(alloc: Global) -> Result<bool, NoMemory> {
-    let mut statics = Statics::of(alloc, FIRST)?;
+fn keep(statics: &mut Statics) -> bool {
     let written = statics.set(1, MVal::Int(3)) && !statics.set(2, MVal::Null);
     let read = statics.get(0) == Some(MVal::Int(7)) && statics.get(1) == Some(MVal::Int(3));
-    Ok(written && read && statics.get(2).is_none())
+    written && read && statics.get(2).is_none()
+}
+
+fn statics_keep(alloc: Global) -> Result<bool, NoMemory> {
+    let mut statics = Statics::of(alloc, FIRST)?;
+    let keep = keep(&mut statics);
+    drop(statics);
+    Ok(keep)
 }
 
 #[test]

@@ -24,13 +24,19 @@ fn lines(alloc: Global) -> Result<Lines, BadInput> {
     }
 }
 
+fn check_next(lines: &mut Lines, rows: &[(Option<usize>, i32)]) -> Result<(), Fail> {
+    for (line, number) in rows {
+        expect(lines.next(*line) == *number, "its next number")?;
+    }
+    Ok(())
+}
+
 #[test]
 fn numbers_are_taken_line_by_line(rt: HostRuntime) -> Result<(), Fail> {
     let Ok(mut lines) = lines(rt.alloc()) else {
         return Err(Fail::new("the lines are right"));
     };
-    for (line, number) in NEXT {
-        expect(lines.next(*line) == *number, "its next number")?;
-    }
-    Ok(())
+    let checked = check_next(&mut lines, NEXT);
+    drop(lines);
+    checked
 }

@@ -45,18 +45,17 @@ fn kind_at(kinds: Kinds, one: usize, place: usize) -> PlaceKind<'static> {
 }
 
 /// So many kinds behind those of a pile.
-fn pushed(
+fn push_all(
     alloc: Global,
-    pile: Pile<'static>,
+    pile: &mut Pile<'static>,
     kinds: Kinds,
     one: usize,
     many: usize,
-) -> Result<Pile<'static>, NoMemory> {
-    let mut all = pile;
+) -> Result<(), NoMemory> {
     for place in 0..many {
-        all.push(alloc, kind_at(kinds, one, place))?;
+        pile.push(alloc, kind_at(kinds, one, place))?;
     }
-    Ok(all)
+    Ok(())
 }
 
 /// A pile of so many kinds.
@@ -66,7 +65,9 @@ pub fn pile_of(
     one: usize,
     many: usize,
 ) -> Result<Pile<'static>, NoMemory> {
-    pushed(alloc, Pile::new(alloc), kinds, one, many)
+    let mut pile: Pile<'static> = Pile::new(alloc);
+    push_all(alloc, &mut pile, kinds, one, many)?;
+    Ok(pile)
 }
 
 /// Whether the kinds that are taken one by one are those that were pushed, the last one first.
@@ -83,15 +84,21 @@ fn come_back(alloc: Global, pile: &mut Pile, one: usize) -> Result<bool, NoMemor
 
 fn kinds_come_back(alloc: Global, one: usize) -> Result<bool, NoMemory> {
     let mut pile = pile_of(alloc, Kinds::NullsBut(PlaceKind::Int), one, MANY)?;
-    come_back(alloc, &mut pile, one)
+    let come = come_back(alloc, &mut pile, one);
+    drop(pile);
+    come
+}
+
+fn all_come_back(alloc: Global, places: &[usize]) -> Result<(), Fail> {
+    for one in places {
+        expect(kinds_come_back(alloc, *one)?, "an int among nulls")?;
+    }
+    Ok(())
 }
 
 #[test]
 fn kinds_are_taken_as_they_were_pushed(rt: HostRuntime) -> Result<(), Fail> {
-    for one in PLACES {
-        expect(kinds_come_back(rt.alloc(), *one)?, "an int among nulls")?;
-    }
-    Ok(())
+    all_come_back(rt.alloc(), PLACES)
 }
 
 /// Two piles, which differ at one place alone or at all places: a row's name, the names of the
@@ -220,6 +227,14 @@ fn fit(
     Ok(first == pair.fits && again == pair.fits)
 }
 
+/// Whether a pile has the row's least kind at a place.
+fn is_least(least: &Pile, pair: &Pair, place: usize) -> bool {
+    match least.get(place) {
+        Some(kind) => are_alike(kind, kind_at(pair.least, place, place)),
+        None => false,
+    }
+}
+
 /// Whether the least pile above both has the row's kind at a place.
 fn meet(
     alloc: Global,
@@ -233,10 +248,9 @@ fn meet(
         return Ok(false);
     }
     let least = one.merged(alloc, merges, pair.exceptions, other)?;
-    match least.get(place) {
-        Some(kind) => Ok(are_alike(kind, kind_at(pair.least, place, place))),
-        None => Ok(false),
-    }
+    let is_least = is_least(&least, pair, place);
+    drop(least);
+    Ok(is_least)
 }
 
 /// Whether the row is right of two piles, and of what is merged again.
@@ -254,6 +268,20 @@ fn holds(
     Ok(fits && first && again)
 }
 
+/// Whether the row is right of this pile and its other one.
+fn holds_of(
+    alloc: Global,
+    merges: &mut Merges<'static>,
+    pair: &Pair,
+    place: usize,
+    one: &Pile<'static>,
+) -> Result<bool, NoMemory> {
+    let other = pile_of(alloc, pair.other, place, MANY)?;
+    let holds = holds(alloc, merges, pair, place, one, &other);
+    drop(other);
+    holds
+}
+
 fn pair_holds(
     alloc: Global,
     merges: &mut Merges<'static>,
@@ -261,24 +289,31 @@ fn pair_holds(
     place: usize,
 ) -> Result<bool, NoMemory> {
     let one = pile_of(alloc, pair.one, place, MANY)?;
-    let other = pile_of(alloc, pair.other, place, MANY)?;
-    holds(alloc, merges, pair, place, &one, &other)
+    let holds = holds_of(alloc, merges, pair, place, &one);
+    drop(one);
+    holds
 }
 
-fn pair_holds_everywhere(
+fn pair_holds_at(
     alloc: Global,
     merges: &mut Merges<'static>,
     pair: &Pair,
+    places: &[usize],
 ) -> Result<(), Fail> {
-    for place in PLACES {
+    for place in places {
         expect(pair_holds(alloc, merges, pair, *place)?, pair.name)?;
     }
     Ok(())
 }
 
-fn pairs_hold(alloc: Global, merges: &mut Merges<'static>) -> Result<(), Fail> {
-    for pair in PAIRS {
-        pair_holds_everywhere(alloc, merges, pair)?;
+fn pairs_hold(
+    alloc: Global,
+    merges: &mut Merges<'static>,
+    pairs: &[Pair],
+    places: &[usize],
+) -> Result<(), Fail> {
+    for pair in pairs {
+        pair_holds_at(alloc, merges, pair, places)?;
     }
     Ok(())
 }
@@ -286,5 +321,7 @@ fn pairs_hold(alloc: Global, merges: &mut Merges<'static>) -> Result<(), Fail> {
 #[test]
 fn piles_fit_and_meet(rt: HostRuntime) -> Result<(), Fail> {
     let mut merges: Merges<'static> = Merges::new(rt.alloc());
-    pairs_hold(rt.alloc(), &mut merges)
+    let held = pairs_hold(rt.alloc(), &mut merges, PAIRS, PLACES);
+    drop(merges);
+    held
 }

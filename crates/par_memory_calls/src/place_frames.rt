@@ -48,7 +48,22 @@ fn merge_holds_both(
         return Ok(false);
     }
     let least = one.merged(alloc, merges, &[], other)?;
-    Ok(holds_both(&least))
+    let holds = holds_both(&least);
+    drop(least);
+    Ok(holds)
+}
+
+/// Whether this frame is merged with one of nulls alone.
+fn meets_nulls(
+    alloc: Global,
+    merges: &mut Merges<'static>,
+    ints: &PlaceFrame<'static>,
+    nulls: usize,
+) -> Result<bool, NoMemory> {
+    let nulls = frame_of(alloc, PlaceKind::Null, nulls)?;
+    let meets = merge_holds_both(alloc, merges, ints, &nulls);
+    drop(nulls);
+    meets
 }
 
 /// Whether frames are merged that list so many locals, an int among one's and nulls alone.
@@ -59,8 +74,9 @@ fn frames_meet(
     nulls: usize,
 ) -> Result<bool, NoMemory> {
     let ints = frame_of(alloc, PlaceKind::Int, ints)?;
-    let nulls = frame_of(alloc, PlaceKind::Null, nulls)?;
-    merge_holds_both(alloc, merges, &ints, &nulls)
+    let meet = meets_nulls(alloc, merges, &ints, nulls);
+    drop(ints);
+    meet
 }
 
 fn both_meet(alloc: Global, merges: &mut Merges<'static>) -> Result<(), Fail> {
@@ -73,5 +89,7 @@ fn both_meet(alloc: Global, merges: &mut Merges<'static>) -> Result<(), Fail> {
 #[test]
 fn locals_are_merged_that_both_list(rt: HostRuntime) -> Result<(), Fail> {
     let mut merges: Merges<'static> = Merges::new(rt.alloc());
-    both_meet(rt.alloc(), &mut merges)
+    let met = both_meet(rt.alloc(), &mut merges);
+    drop(merges);
+    met
 }

@@ -34,13 +34,19 @@ fn with_operands(alloc: Global) -> Result<Stack, NoMemory>
     Ok(stack)
 }
 
-fn operands_are_kept(alloc: Global) -> Result<bool, NoMemory> {
-    let stack = with_operands(alloc)?;
+fn has_operands(stack: &Stack) -> bool {
     let sizes = (stack.locals(), stack.count(), stack.free()) == (1, 2, 0);
     let last = stack.operand(0) == Some(FOUR) && stack.operand(1) == Some(THREE);
     let none = stack.operand(2).is_none() && stack.local(0).is_none();
     let places = stack.places() == [None, Some(THREE), Some(FOUR)].as_slice();
-    Ok(sizes && last && none && places)
+    sizes && last && none && places
+}
+
+fn operands_are_kept(alloc: Global) -> Result<bool, NoMemory> {
+    let stack = with_operands(alloc)?;
+    let are_kept = has_operands(&stack);
+    drop(stack);
+    Ok(are_kept)
 }
 
 #[test]
@@ -55,14 +61,20 @@ fn called(alloc: Global) -> Result<Stack, NoMemory> {
     Ok(stack)
 }
 
-fn call_is_made(alloc: Global) -> Result<bool, NoMemory> {
-    let stack = called(alloc)?;
+fn is_called(stack: &Stack) -> bool {
     let points = stack.point() == CALLED
         && stack.point_below(1) == Some(CALLER)
         && stack.point_below(2).is_none();
     let argument = stack.local(0) == Some(FOUR) && stack.local(1).is_none();
     let all = [None, Some(THREE), None, Some(FOUR), None, None];
-    Ok(stack.depth() == 2 && points && argument && stack.places() == all.as_slice())
+    stack.depth() == 2 && points && argument && stack.places() == all.as_slice()
+}
+
+fn call_is_made(alloc: Global) -> Result<bool, NoMemory> {
+    let stack = called(alloc)?;
+    let is_made = is_called(&stack);
+    drop(stack);
+    Ok(is_made)
 }
 
 #[test]
@@ -73,17 +85,23 @@ fn a_call_takes_its_arguments(rt: HostRuntime) -> Result<(), Fail> {
     )
 }
 
-fn caller_is_left(alloc: Global) -> Result<bool, NoMemory> {
-    let mut stack = called(alloc)?;
+fn gives_back(stack: &mut Stack) -> bool {
     if stack.locals() != 2 {
-        return Ok(false);
+        return false;
     }
     stack.set_local(1, MVal::Null);
     let set = stack.local(1) == Some(MVal::Null);
     let left = stack.leave() && stack.point() == CALLER;
     let places = stack.places() == [None, Some(THREE), None].as_slice();
     let last = !stack.leave() && stack.depth() == 1;
-    Ok(set && left && places && last)
+    set && left && places && last
+}
+
+fn caller_is_left(alloc: Global) -> Result<bool, NoMemory> {
+    let mut stack = called(alloc)?;
+    let is_left = gives_back(&mut stack);
+    drop(stack);
+    Ok(is_left)
 }
 
 #[test]
@@ -91,14 +109,22 @@ fn a_frame_that_is_left_gives_its_places_back(rt: HostRuntime) -> Result<(), Fai
     expect(caller_is_left(rt.alloc())?, "the operand that stayed")
 }
 
-fn operands_are_taken(alloc: Global) -> Result<bool, NoMemory> {
-    let mut stack = with_operands(alloc)?;
+fn takes(stack: &mut Stack) -> bool
+    requires { length (running stack.old).operands ≡ 2 }
+{
     stack.pop(1);
     let popped = stack.places() == [None, Some(THREE), None].as_slice();
     stack.keep(FOUR);
     stack.go_to(9);
     let kept = stack.places() == [None, Some(FOUR), None].as_slice();
-    Ok(popped && kept && stack.point().at == 9)
+    popped && kept && stack.point().at == 9
+}
+
+fn operands_are_taken(alloc: Global) -> Result<bool, NoMemory> {
+    let mut stack = with_operands(alloc)?;
+    let are_taken = takes(&mut stack);
+    drop(stack);
+    Ok(are_taken)
 }
 
 #[test]

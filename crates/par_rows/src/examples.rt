@@ -561,8 +561,12 @@ fn bids_are_told(
     bids: &(&'static str, &'static str, &'static str),
 ) -> Result<bool, NoMemory> {
     let is_traced = traces_as(alloc, SEALED_BIDS, bids.0, TRACE, (bids.1, 0))?;
+    Ok(is_traced && bids_are_run(alloc, bids.0, (bids.2, 0))?)
+}
+
+fn bids_are_run(alloc: Global, inputs: &'static str, answer: Answer) -> Result<bool, NoMemory> {
     let run = "paragon Auction in.txt 1000";
-    Ok(is_traced && runs_as(alloc, &(SEALED_BIDS, bids.0, COMPILED, run, (bids.2, 0)))?)
+    runs_as(alloc, &(SEALED_BIDS, inputs, COMPILED, run, answer))
 }
 
 #[test]

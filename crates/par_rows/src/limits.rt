@@ -378,7 +378,7 @@ fn limits_of_other_sources_are_kept(rt: HostRuntime) -> Result<(), Fail> {
 }
 
 /// Blocks, each `else`, and the signs, `.` and `(` of an expression nest; the main block is one.
-static NESTING: &[Row] = &[
+static NESTED_BLOCKS: &[Row] = &[
     (
         "a block of 64 braces",
         8,
@@ -416,6 +416,32 @@ static NESTING: &[Row] = &[
         ("refused 11 at 8:1208\n", 1),
     ),
     (
+        "the parentheses of when count nothing",
+        8,
+        &[("when (Paid) { ", 62), ("} ", 62)],
+        ACCEPTED,
+    ),
+    (
+        "an else of when counts",
+        8,
+        &[("when (Paid) { } else { ", 31), ("} ", 31)],
+        ACCEPTED,
+    ),
+    (
+        "an else of when counts, one too many",
+        8,
+        &[("when (Paid) { } else { ", 32), ("} ", 32)],
+        ("refused 11 at 8:735\n", 1),
+    ),
+];
+
+#[test]
+fn tokens_nest_up_to_64_deep(rt: HostRuntime) -> Result<(), Fail> {
+    check_limits(rt.alloc(), NESTED_BLOCKS)
+}
+
+static NESTED_SIGNS: &[Row] = &[
+    (
         "63 signs in a row",
         8,
         &[("int x = ", 1), ("- ", 63), ("1;", 1)],
@@ -451,6 +477,15 @@ static NESTING: &[Row] = &[
         &[("got", 1), (".f", 30), (" = 1", 1), (" + 1", 34), (";", 1)],
         ("refused 11 at 8:201\n", 1),
     ),
+];
+
+#[test]
+fn signs_nest_up_to_64_deep(rt: HostRuntime) -> Result<(), Fail> {
+    check_limits(rt.alloc(), NESTED_SIGNS)
+}
+
+/// Those of a statement count together, and a test begins a count of its own.
+static NESTED_TOGETHER: &[Row] = &[
     (
         "blocks, an else and parentheses, 64 together",
         8,
@@ -499,29 +534,11 @@ static NESTING: &[Row] = &[
         ],
         ACCEPTED,
     ),
-    (
-        "the parentheses of when count nothing",
-        8,
-        &[("when (Paid) { ", 62), ("} ", 62)],
-        ACCEPTED,
-    ),
-    (
-        "an else of when counts",
-        8,
-        &[("when (Paid) { } else { ", 31), ("} ", 31)],
-        ACCEPTED,
-    ),
-    (
-        "an else of when counts, one too many",
-        8,
-        &[("when (Paid) { } else { ", 32), ("} ", 32)],
-        ("refused 11 at 8:735\n", 1),
-    ),
 ];
 
 #[test]
-fn tokens_nest_up_to_64_deep(rt: HostRuntime) -> Result<(), Fail> {
-    check_limits(rt.alloc(), NESTING)
+fn tokens_of_a_statement_nest_together(rt: HostRuntime) -> Result<(), Fail> {
+    check_limits(rt.alloc(), NESTED_TOGETHER)
 }
 
 /// Whether a source is compiled, and its class file runs to its end.
