@@ -1,6 +1,6 @@
 -- What was read stays as it is where more is read.
 use Rattle.std.proofs.Common.{◌≡◌, ℕ, zero, suc, List, [], ◌∷◌, ◌++◌, map, Option, Some, None}
-use Rattle.std.proofs.Common.{refl, sym, ap, ◌∙◌, subst}
+use Rattle.std.proofs.Common.{Bool, true, false, if◌then◌else◌, refl, sym, ap, ◌∙◌, subst}
 use Rattle.std.proofs.lemmas.List.Elements.{All-weaker, All-append, All-cons, All-nil}
 use Rattle.par_typed.specs.par_policy.declared.clauses.Clause.{Clause}
 use Rattle.par_tree.specs.declared.policy.PolicyTerm.{PolicyTerm}
@@ -70,6 +70,17 @@ all_stay k x read all =
     All-weaker (λ r. value_of k r.expr.now ≡ Some r.policy)
     (λ r. value_of (with_value k x) r.expr.now ≡ Some r.policy)
     (λ r is. value_stays k x r.expr.now r.policy is) read all
+
+-- the same, whether it is known or not
+pub all_stay_if : (k : Known) (is_known : Bool) (x : Option (List Clause)) (read : List Read)
+    → AreRead k read
+    → AreRead (record {
+      numbers = k.numbers;
+      names = k.names;
+      values = if is_known then k.values ++ x ∷ [] else k.values;
+    }) read
+all_stay_if k true x read all = all_stay k x read all
+all_stay_if k false x read all = all
 
 -- one expression more is read
 pub one_more : (old new : List Read) (r : Read) (e : PolicyExpr) → new ≡ old ++ r ∷ []

@@ -14,4 +14,4 @@ pub mod Found
 pub mod Counted
 pub mod Behind
 pub mod Sorted
-pub use Rattle.par_names.proofs as par_names
+pub use Rattle.par_names.proofs as names

@@ -2,7 +2,7 @@ use Rattle.std.proofs.Common.{ℕ, List, [], ◌∷◌, map, refl}
 use Rattle.std.specs.Borrow.{Bor}
 use Rattle.par_parts.specs.Gathered.{all_of}
 use Rattle.par_resolved.specs.declared.entries.Entry.{Entry}
-use Rattle.par_resolved.proofs.par_names.Gone.{one_fewer, none_left}
+use Rattle.par_resolved.proofs.names.Gone.{one_fewer, none_left}
 use Rattle.par_limits.proofs.many.push_entries.Goals as goal
 
 abbrev places : List (Bor Entry) → List ℕ

@@ -4,7 +4,7 @@ use Rattle.std.specs.List.{flat_map}
 use Rattle.par_tree.specs.declared.decl.ClassDecl.{ClassDecl}
 use Rattle.par_tree.specs.Plain.{Class}
 use Rattle.par_parts.specs.Gathered.{classes_of}
-use Rattle.par_resolved.proofs.par_names.Gone.{one_fewer, none_left}
+use Rattle.par_resolved.proofs.names.Gone.{one_fewer, none_left}
 use Rattle.par_limits.specs.Places.{inferred_places}
 use Rattle.par_limits.proofs.many.push_fields.Goals as goal
 

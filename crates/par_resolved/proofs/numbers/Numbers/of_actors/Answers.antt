@@ -1,12 +1,11 @@
-use Rattle.std.proofs.Common.{◌≡◌, ◌≤◌, ◌∙◌, ap, sym, subst, ℕ, List, map, length, IfOk, arith}
+use Rattle.std.proofs.Common.{◌≡◌, ◌≤◌, ◌∙◌, ap, sym, subst, List, length, IfOk, arith}
 use Rattle.std.proofs.lemmas.List.{length-map}
 use Rattle.std.specs.Prelude.{sum_by}
 use Rattle.std.specs.Borrow.{Bor}
 use Rattle.par_tree.specs.declared.decl.LockDecl.{LockDecl}
 use Rattle.par_tree.specs.declared.ident.Ident.{Ident}
 use Rattle.par_tree.specs.Shown.{source}
-use Rattle.par_names.specs.Declarations.{actors, locks}
-use Rattle.par_resolved.specs.Few.{HasFew}
+use Rattle.par_names.specs.Declarations.{actors}
 use Rattle.par_resolved.specs.Numbers.{ground_count, numbers_of}
 use Rattle.par_resolved.specs.SeenNumbers.{seen}
 use Rattle.par_resolved.specs.declared.limits.TheConstants.{MOST_GROUND_LOCKS}
