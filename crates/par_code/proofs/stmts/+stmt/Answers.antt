@@ -87,10 +87,10 @@ pub put_stmt-returns-in-Eval : goal.put_stmt-returns-in-Eval
 put_stmt-returns-in-Eval t c =
     grind (arith, plain.does_eval, forms.eval_is, type_is)
 
-pub put_stmt-returns-in-LockSet-true : goal.put_stmt-returns-in-LockSet-true
-put_stmt-returns-in-LockSet-true t c =
+pub put_stmt-returns-in-LockSet-default-true : goal.put_stmt-returns-in-LockSet-default-true
+put_stmt-returns-in-LockSet-default-true t c =
     grind (arith, plain.does_open, forms.open_is)
 
-pub put_stmt-returns-in-LockSet-false : goal.put_stmt-returns-in-LockSet-false
-put_stmt-returns-in-LockSet-false t c =
+pub put_stmt-returns-in-LockSet-default-false : goal.put_stmt-returns-in-LockSet-default-false
+put_stmt-returns-in-LockSet-default-false t c =
     grind (arith, plain.does_close, forms.close_is)
