@@ -1,6 +1,5 @@
-//! Public calls of the crates that read and write class files and read input files, each run
-//! once with ample memory, and files from outside. The crate is tests alone, and nothing stands
-//! on it.
+//! Public calls of the crates that read and write class files and read input files, and of the
+//! outside, each run once with ample memory. The crate is tests alone, and nothing stands on it.
 #![tactic(auto)]
 
 #[cfg(test)]
@@ -11,5 +10,7 @@ mod descriptors;
 mod input_files;
 #[cfg(test)]
 mod instructions;
+#[cfg(test)]
+mod outside;
 #[cfg(test)]
 mod pools;

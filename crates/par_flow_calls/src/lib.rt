@@ -1,6 +1,6 @@
-//! Public calls of the crates that type programs, find what flows in them, run them, tell their
-//! runs line by line and say what an observer sees, each run once with ample memory. The crate is
-//! tests alone, and nothing stands on it.
+//! Public calls of the crates that type programs, find what flows in them, run them and say what an
+//! observer sees, each run once with ample memory. The crate is tests alone, and nothing stands on
+//! it.
 #![tactic(auto)]
 
 #[cfg(test)]
@@ -19,7 +19,5 @@ mod observers;
 mod releases;
 #[cfg(test)]
 mod source_runs;
-#[cfg(test)]
-mod trace_lines;
 #[cfg(test)]
 mod typed_trees;

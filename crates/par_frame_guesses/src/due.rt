@@ -4,9 +4,9 @@
 //! Among these it is the next one ahead, and where none is the order turns round: so whatever comes
 //! to a piece from many others gathers there before it goes on.
 
-use crate::ordered::Ordered;
 use crate::spots::Spot;
 use par_base::memory::NoMemory;
+use par_small_kinds::Ordered;
 use std::alloc::Global;
 
 /// A piece, by the loops around it.

@@ -14,7 +14,6 @@ mod guess;
 mod handler;
 mod likes;
 mod method;
-mod ordered;
 mod piece;
 mod spots;
 

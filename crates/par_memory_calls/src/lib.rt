@@ -1,6 +1,7 @@
 //! Public calls of what a run keeps: objects and static fields, frames, and the numbers that are
-//! left of its inputs, of the lines that tell its events, and of the long piles of kinds that a
-//! verifier keeps, each run with ample memory. The crate is tests alone, and nothing stands on it.
+//! left of its inputs, of the lines that tell its events, of the long piles of kinds that a
+//! verifier keeps, and of sets of numbers, each run with ample memory. The crate is tests alone,
+//! and nothing stands on it.
 #![tactic(auto)]
 
 #[cfg(test)]
@@ -13,5 +14,7 @@ mod input_lines;
 mod piles;
 #[cfg(test)]
 mod place_frames;
+#[cfg(test)]
+mod sets;
 #[cfg(test)]
 mod stacks;

@@ -60,7 +60,7 @@ fn last_to(words: &[u64], to: usize) -> Option<usize> {
 
 /// Some numbers below a bound.
 #[derive(Drop)]
-pub(crate) struct Ordered {
+pub struct Ordered {
     words: Vec<u64>,
     /// A bit for each word that has one.
     marks: Vec<u64>,
@@ -68,7 +68,7 @@ pub(crate) struct Ordered {
 
 impl Ordered {
     /// None, and never one that is not below this bound.
-    pub(crate) fn none(alloc: Global, bound: usize) -> Result<Ordered, NoMemory> {
+    pub fn none(alloc: Global, bound: usize) -> Result<Ordered, NoMemory> {
         let words = bound.div_ceil(WORD);
         Ok(Ordered {
             words: vec![in alloc; 0u64; words]?,
@@ -77,7 +77,7 @@ impl Ordered {
     }
 
     /// Adds a number.
-    pub(crate) fn add(&mut self, number: usize) {
+    pub fn add(&mut self, number: usize) {
         if let Some(word) = self.words.get_mut(number / WORD) {
             *word |= bit_of(number);
         }
@@ -87,7 +87,7 @@ impl Ordered {
     }
 
     /// Leaves a number out.
-    pub(crate) fn remove(&mut self, number: usize) {
+    pub fn remove(&mut self, number: usize) {
         let Some(word) = self.words.get_mut(number / WORD) else {
             return;
         };
@@ -101,7 +101,7 @@ impl Ordered {
     }
 
     /// The least of them from one on.
-    pub(crate) fn first(&self, from: usize) -> Option<usize> {
+    pub fn first(&self, from: usize) -> Option<usize> {
         if let Some(number) = first_in(&self.words, from) {
             return Some(number);
         }
@@ -110,7 +110,7 @@ impl Ordered {
     }
 
     /// The greatest of them below one.
-    pub(crate) fn last(&self, below: usize) -> Option<usize> {
+    pub fn last(&self, below: usize) -> Option<usize> {
         let to = below.checked_sub(1)?;
         if let Some(number) = last_in(&self.words, to) {
             return Some(number);
