@@ -143,7 +143,7 @@ const CLAUSES: &[(&str, Part, Part, bool)] = &[
 
 fn copy_of(alloc: Global, part: &Part) -> Result<Clause, NoMemory> {
     let clause = clause(alloc, part)?;
-    let copy = clause.clone();
+    let copy: Result<_, _> = clause.clone();
     drop(clause);
     Ok(copy?)
 }
@@ -280,7 +280,7 @@ pub fn lists(alloc: Global, clauses: &[Clause], want: &[Part]) -> Result<bool, N
 
 fn copy_of_given(alloc: Global) -> Result<Policy, NoMemory> {
     let given = policy(alloc, GIVEN)?;
-    let copy = given.clone();
+    let copy: Result<_, _> = given.clone();
     drop(given);
     Ok(copy?)
 }
