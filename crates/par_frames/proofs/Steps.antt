@@ -132,7 +132,7 @@ module _ {A B : Type 0} (classes : A → List Name) (R : List Constant → A →
   pub last : (old now : List Constant) (all : List A) (i : ℕ) (made : List B) → length all ≤ i
       → Placing old now all (drop i all) made → Placing old now all [] made
   last old now all i made le p =
-      subst (λ (rest : List A). Placing old now all rest made) (drop_all all i le) p
+      subst (λ (rest : List A). Placing old now all rest made) (drop_all i all le) p
 
   all_done : (old now : List Constant) (all : List A) (made : List B)
       → (p : Placing old now all [] made) → p.done ≡ all
