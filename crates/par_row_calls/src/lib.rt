@@ -147,6 +147,14 @@ pub fn traces_as(
     answers(alloc, command, &mut folder, answer)
 }
 
+/// Whether a source is compiled so, and a command over its class files and inputs answers so.
+pub fn runs_as(alloc: Global, run: &(&str, &str, Answer, &str, Answer)) -> Result<bool, NoMemory> {
+    let mut folder = folder_of(alloc, run.0)?;
+    folder.add("in.txt", run.1.as_bytes())?;
+    let is_compiled = answers(alloc, "paragonc shop.par", &mut folder, run.2)?;
+    Ok(is_compiled && answers(alloc, run.3, &mut folder, run.4)?)
+}
+
 /// Checks the common source with a line in place of that one.
 pub fn line_checks_as(
     alloc: Global,

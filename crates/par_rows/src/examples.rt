@@ -4,7 +4,9 @@
 //! are kept equal, and `bench/same_examples.sh` compares them.
 
 use par_io::NoMemory;
-use par_row_calls::{ACCEPTED, Answer, COMPILED, answers, check_sources, folder_of, traces_as};
+use par_row_calls::{
+    ACCEPTED, Answer, COMPILED, answers, check_sources, folder_of, runs_as, traces_as,
+};
 use par_worked::expect;
 use std::alloc::Global;
 use std::test::Fail;
@@ -517,14 +519,6 @@ const RUNS: &[(&str, &str, Answer, &str, Answer)] = &[
         ("out Door.answer 1\nset Door.tries 1\nend\n", 0),
     ),
 ];
-
-/// Whether a source is compiled and its class files are run so.
-fn runs_as(alloc: Global, run: &(&str, &str, Answer, &str, Answer)) -> Result<bool, NoMemory> {
-    let mut folder = folder_of(alloc, run.0)?;
-    folder.add("in.txt", run.1.as_bytes())?;
-    let is_compiled = answers(alloc, "paragonc shop.par", &mut folder, run.2)?;
-    Ok(is_compiled && answers(alloc, run.3, &mut folder, run.4)?)
-}
 
 #[test]
 fn examples_are_compiled_and_run(rt: HostRuntime) -> Result<(), Fail> {
