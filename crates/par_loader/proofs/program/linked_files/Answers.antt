@@ -51,8 +51,8 @@ bad_class-requires c =
     ∙ name_is (λ k. k.items) c.args.names.now.keys files c.requires.names 0 in
     subst IsName (sym name) (name_named files 0 c.requires.named c.requires.some)
 
-pub returns-in-Ok-clause-links : goal.returns-in-Ok-clause-links
-returns-in-Ok-clause-links c =
+pub returns-else-begins-clause-links : goal.returns-else-begins-clause-links
+returns-else-begins-clause-links c =
     let files = c.args.files in
     let name = c.name_at.ensures
     ∙ name_is (λ k. k.items) c.args.names.now.keys files c.requires.names 0 in

@@ -5,8 +5,8 @@ use Rattle.par_place_kinds.specs.declared.kind.PlaceKind.{PlaceKind}
 use Rattle.par_frame_steps.specs.Marks.{names, kinds_of}
 use Rattle.par_frame_steps.proofs.pile.Pile.merged_first.Goals as goal
 
-pub merged-requires : goal.merged-requires
-merged-requires c =
+pub merged-least-requires : goal.merged-least-requires
+merged-least-requires c =
     c.requires ∙ ap (λ (ks : List PlaceKind). length ks) (sym c.in_ok-first.ensures)
 
 pub returns : goal.returns
