@@ -1,6 +1,9 @@
-use Rattle.std.proofs.Common.{arith, map, ap, ◌≡◌, ◌+◌, ◌-◌, length, drop, take, ◌∙◌}
+use Rattle.std.proofs.Common.{arith, map, ap, sym, ◌≡◌, ℕ, ◌+◌, ◌-◌, List, [], ◌++◌}
+use Rattle.std.proofs.Common.{length, drop, take, ◌∙◌}
 use Rattle.std.proofs.lemmas.Grind.{common_steps}
-use Rattle.par_faults.specs.Limits.{earlier}
+use Rattle.par_tree.specs.declared.decl.ChannelDecl.{ChannelDecl}
+use Rattle.par_tree.specs.declared.decl.FieldDecl.{FieldDecl}
+use Rattle.par_faults.specs.Limits.{earlier, in_order}
 use Rattle.par_faults.proofs.Lists.{left_more, left_none}
 use Rattle.par_faults.proofs.Placed.{order_step, order_end}
 use Rattle.par_faults.proofs.places.member_places.Goals as goal
@@ -27,5 +30,18 @@ loop-field-preserved c =
 pub returns : goal.returns
 returns c =
     let fields = c.as_slice-field-items.result.now in
-    let none = left_none fields c.loop-field.field-index c.loop-field-test.false in
-    grind (arith, common_steps, order_end)
+    let channels = c.as_slice-channels.result.now in
+    let i = c.loop-field.field-index in
+    let next = c.loop-field.next in
+    let done = c.loop-field.places.items in
+    let all : take (length channels - next) (drop next channels) ≡ drop next channels =
+    grind (arith, common_steps) in
+    let gone = left_none fields i c.loop-field-test.false in
+    let none : drop i c.args.class.now.fields ≡ [] = grind (arith, common_steps) in
+    let rest = map (λ (x : ChannelDecl). x.id.at) (drop next channels) in
+    let behind = λ (fs : List FieldDecl). in_order (map (λ f. f.id.at) fs) rest in
+    let left : behind (drop i c.args.class.now.fields) ≡ rest = ap behind none ∙ order_end rest in
+    c.in_ok-push_places-2.ensures
+    ∙ ap (λ (xs : List ChannelDecl). done ++ map (λ x. x.id.at) xs) all
+    ∙ sym (ap (λ (places : List ℕ). done ++ places) left)
+    ∙ c.loop-field.invariant.found
