@@ -4,8 +4,8 @@ use Rattle.par_compile.proofs.Laid.{file_spelled}
 use Rattle.par_compile.proofs.Chosen.{long_or_short}
 use Rattle.par_compile.proofs.bytes.file_bytes.Goals as goal
 
-pub short_bytes-requires : goal.short_bytes-requires
-short_bytes-requires c = λ short.
+pub short_bytes-bytes-requires : goal.short_bytes-bytes-requires
+short_bytes-bytes-requires c = λ short.
     file_spelled c.args.frames (table_of c.args.plain.now) (class_info c.args.class.now)
     (own_members c.args.plain.now c.args.class.now) c.in_ok-file.file c.in_ok-file.ensures short
 

@@ -18,20 +18,20 @@ frames_at-requires c = record {
       have_labels c.args.code.now c.args.offsets.now c.requires.placeable c.requires.labels;
 }
 
-pub table_of-requires-clause-ascend : goal.table_of-requires-clause-ascend
-table_of-requires-clause-ascend c =
+pub table_of-table-requires-clause-ascend : goal.table_of-table-requires-clause-ascend
+table_of-table-requires-clause-ascend c =
     subst (λ (fs : List PlacedFrame). Ascend 0 (offsets fs)) (sym c.in_ok-at.ensures)
     (frames_ascend c.args.code.now c.args.offsets.now c.requires.placeable c.requires.labels)
 
-pub table_of-requires-clause-short : goal.table_of-requires-clause-short
-table_of-requires-clause-short c =
+pub table_of-table-requires-clause-short : goal.table_of-table-requires-clause-short
+table_of-table-requires-clause-short c =
     subst (λ (fs : List PlacedFrame). All IsShort fs) (sym c.in_ok-at.ensures)
     (all_short (slice_index c.args.offsets.now) c.args.code.now
     (omega (arith, c.requires.few_locals)) (omega (arith, c.requires.few_operands))
     c.requires.placeable)
 
-pub table_of-requires-clause-room : goal.table_of-requires-clause-room
-table_of-requires-clause-room c =
+pub table_of-table-requires-clause-room : goal.table_of-table-requires-clause-room
+table_of-table-requires-clause-room c =
     let code = c.args.code.now in
     let f = slice_index c.args.offsets.now in
     subst (λ (fs : List PlacedFrame). HasRoom c.args.pool.now (1 + SPARE) (classes_named fs))
@@ -45,8 +45,9 @@ returns-in_err-at-clause-added c =
 
 pub returns-clause-are : goal.returns-clause-are
 returns-clause-are c =
+    let pool = c.table_of-table.new.pool in
     subst (λ (fs : List PlacedFrame).
-    IfOk c.table_of-table.result (λ as'. AreAttributes c.table_of-table.new.pool c.args.code.now fs as'))
+    IfOk c.table_of-table.result (λ as'. AreAttributes pool c.args.code.now fs as'))
     c.in_ok-at.ensures c.table_of-table.ensures.are
 
 pub returns-clause-room : goal.returns-clause-room
