@@ -57,10 +57,10 @@ fn tokens_of(alloc: Global, text: &[u8]) -> Result<List<Token>, Fail>
 fn class_of(program: &Program) -> Option<&ClassDecl> {
     match program.decls.as_slice() {
         [
-            Decl::Actors(_),
-            Decl::Lock(_),
+            Decl::Actors(..),
+            Decl::Lock(..),
             Decl::Lock(both),
-            Decl::Policy(_),
+            Decl::Policy(..),
             Decl::Class(fault),
             Decl::Class(class),
         ] => {
