@@ -27,7 +27,8 @@ struct Row {
 const ROWS: &[Row] = &[
     // Three deep, each in the block of the next.
     Row {
-        body: b"try { try { try { shut(); } catch (Bad a) { got = 1; } } catch (Bad b) { got = 2; } }
+        body: b"try { try { try { shut(); } catch (Bad a) { got = 1; } } \
+            catch (Bad b) { got = 2; } }
             catch (Bad c) { got = 3; }",
         handlers: &[
             Caught {

@@ -222,7 +222,8 @@ module _ (ctx : Setting) (result : Ty) where
             (z.continued i s a (less set' set s a sub fit));
         returns = λ r s a e fit. shift j k c d _ _ _ lk lc (al.2 nothing s)
             (z.returns r s a e (less set' set s a sub fit));
-        gives_back = λ r os v s a nv ht fit. shift j k c d _ _ _ lk lc (al.2 nothing (set_result v s))
+        gives_back = λ r os v s a nv ht fit. shift j k c d _ _ _ lk lc
+            (al.2 nothing (set_result v s))
             (z.gives_back r os v s a nv ht (less set' set s a sub fit));
         lands = λ r x n v s a i is fit.
             subst (λ (o : Option ℕ). N k d (thrown_to env.names (value.Ref (lay.number x) n)

@@ -222,7 +222,8 @@ module _ (ctx : Setting) (result : Ty) where
       (with (areas.set_static (lay.static_at cl f) (moved lay v) a2) []) (Set (w.class cl)
       (w.field cl f) (source_value t v)) s2.locks (rest Normal nothing (set_static cl f v s2))
       (omega arith) h2 (lv refl)
-      (ap (λ l. silent (op.of_field PutStatic (op.Misnamed (kind.Anything ∷ []) 0) l) (suc (lead xs)))
+      (ap (λ l. silent (op.of_field PutStatic (op.Misnamed (kind.Anything ∷ []) 0) l)
+      (suc (lead xs)))
       (lays.static_link cl f u tp.1))
       (record {
         enough = omega arith;
@@ -325,7 +326,8 @@ module _ (ctx : Setting) (result : Ty) where
       (with a (value.Int m ∷ [])) (with (areas.set_static (lay.lock_at l2) (value.Int m) a) [])
       (Set (codes "paragon/Locks") g.0 (areas.shown_value env.names (value.Int m))) _ (omega arith)
       h1 lv
-      (ap (λ l. silent (op.of_field PutStatic (op.Misnamed (kind.Anything ∷ []) 0) l) (suc (lead xs))) g.1)
+      (ap (λ l. silent (op.of_field PutStatic (op.Misnamed (kind.Anything ∷ []) 0) l)
+      (suc (lead xs))) g.1)
       (record {
         enough = omega arith;
         fits = refl;
@@ -453,7 +455,9 @@ module _ (ctx : Setting) (result : Ty) where
       fails ctx k (c + 16) p 1 (codes "NullPointerException") set
       (Member 181 (w.class cl) (w.field cl f) (w.field_type cl f)) xs (PutField fl)
       (moved lay v ∷ value.Null ∷ []) nothing s a rest lays.null_pointer lays.one_thrown h
-      (ap (λ l. silent (op.of_field PutField (op.Misnamed (kind.Anything ∷ kind.AnyObject ∷ []) 0) l) (suc (lead xs)))
+      (ap
+      (λ l. silent (op.of_field PutField (op.Misnamed (kind.Anything ∷ kind.AnyObject ∷ []) 0) l)
+      (suc (lead xs)))
       (lays.own_link cl f u own))
       (record {
         enough = omega arith;
@@ -488,7 +492,9 @@ module _ (ctx : Setting) (result : Ty) where
       (with a2 []) (Put (w.class cl) n (w.field cl f)
       (source_value t v)) s.locks (rest Normal nothing (set_field cl n f v s))
       (omega arith) h lv
-      (ap (λ l. silent (op.of_field PutField (op.Misnamed (kind.Anything ∷ kind.AnyObject ∷ []) 0) l) (suc (lead xs)))
+      (ap
+      (λ l. silent (op.of_field PutField (op.Misnamed (kind.Anything ∷ kind.AnyObject ∷ []) 0) l)
+      (suc (lead xs)))
       (lays.own_link cl f u own))
       (record {
         enough = omega arith;

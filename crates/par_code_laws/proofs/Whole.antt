@@ -145,7 +145,8 @@ module _ (env : Naming) (labelled : ℕ → ℕ → Labelled) (mname : ℕ → �
     out_of : (k x n : ℕ) (v : MVal) (s : State) (b : Areas)
         → Rattle.par_evaluation_laws.specs.Laid.IsThrown lay x
         → Matches Mach k 1 (Rattle.par_step_laws.specs.Step.thrown_to env.names
-        (value.Ref (lay.number x) n) (lay.number x) (gen.caught Mach (lay.number x) []) b) (final t (Thrown x) v s)
+        (value.Ref (lay.number x) n) (lay.number x) (gen.caught Mach (lay.number x) []) b)
+        (final t (Thrown x) v s)
     unfolding gen.caught
     out_of k x n v s b th =
         subst (λ y. Matches Mach k 1 (Ends (Uncaught y)) (final t (Thrown x) v s))

@@ -40,8 +40,9 @@ members_put frames p k ins outs ms a b c d e ins-is outs-is ms-is first inputs o
     (puts_then frames given declared c d e outputs' methods'))
 
 pub members_room : (frames : Bool) (p : Plain) (k : PlainClass) (ins outs : List Name)
-    (ms : List PlainMethod) (some more others : List Member) (a b c d : Draft) → ins ≡ k.inputs → outs ≡ k.outputs
-    → ms ≡ k.methods → Puts frames some a b → Puts frames more b c → Puts frames others c d
+    (ms : List PlainMethod) (some more others : List Member) (a b c d : Draft)
+    → ins ≡ k.inputs → outs ≡ k.outputs → ms ≡ k.methods
+    → Puts frames some a b → Puts frames more b c → Puts frames others c d
     → length b.pool ≤ length a.pool + 8 → length c.pool ≤ length b.pool + 2 * length ins
     → length d.pool ≤ length c.pool + 2 * length outs
     → HasRoom a.pool (members_entries frames p k) (methods_classes frames p k.methods)
@@ -68,8 +69,9 @@ members_room frames p k ins outs ms some more others a b c d ins-is outs-is ms-i
 
 -- room for the methods behind the texts, classes and fields
 pub class_room : (frames : Bool) (p : Plain) (k : PlainClass) (fs : List PlainField)
-    (names : List Name) (start a b c d : List Constant) → start ≡ [] → fs ≡ k.fields → Extends start a → Extends a b
-    → Extends b c → Extends c d → length a ≤ length start + 1 → length b ≤ length a + 2
+    (names : List Name) (start a b c d : List Constant) → start ≡ [] → fs ≡ k.fields
+    → Extends start a → Extends a b → Extends b c → Extends c d
+    → length a ≤ length start + 1 → length b ≤ length a + 2
     → length c ≤ length b + 2 → length d ≤ length c + 2 * length fs
     → HasRoom [] (class_entries frames p k) names → HasRoom d (members_entries frames p k) names
 class_room frames p k fs names start a b c d none fs-is e f g h one two three fields room =

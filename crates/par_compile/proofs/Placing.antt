@@ -46,8 +46,9 @@ constant_stays a b e code c (inr h) =
 
 -- ---- code at offsets
 
-unfoldable pub placed_stays : (a b : List Constant) → Extends a b → (code : Labelled) (attr : CodeAttr)
-    → IsPlaced a code attr → IsPlaced b code (record attr { attributes = [] })
+unfoldable pub placed_stays : (a b : List Constant) → Extends a b
+    → (code : Labelled) (attr : CodeAttr) → IsPlaced a code attr
+    → IsPlaced b code (record attr { attributes = [] })
 placed_stays a b e code attr h = record {
   indices = h.indices;
   named =

@@ -230,8 +230,8 @@ module _ (ctx : Setting) where
       let zs = expr_code w b l2 ys in
       let g = expr_grows w b l2 ys in
       let ga = expr_grows w a l zs in
-      spend ctx k c _ _ (iha l k (c + 16) p set zs ops r2 s a0 part.0 part.7 part.3 (expr_lives w b l2
-      ys lys) h
+      spend ctx k c _ _ (iha l k (c + 16) p set zs ops r2 s a0 part.0 part.7 part.3
+      (expr_lives w b l2 ys lys) h
       (giv ctx set s k (c + 16) zs ops (mark a).ty (mark a).ty r2 refl va
       (λ p2 h2 u s1 a1 gr hu fit1.
       let r3 : Rests = follow (operates op2 u) rest in
@@ -291,7 +291,8 @@ module _ (ctx : Setting) where
         comes = λ x g r. refl;
       })
       (omega arith) refl
-      (hand_truth ctx set s2 k c xs ops r rest (compares j x y) s2 a2 er ready (grows_same s2) fit)))))
+      (hand_truth ctx set s2 k c xs ops r rest (compares j x y) s2 a2 er ready (grows_same s2)
+      fit)))))
 
   -- references are compared
   pub sames : (op2 : BinOp) (b : Bool) (k c q n : ℕ) (set : List ℕ) (xs : List Item)
@@ -371,8 +372,8 @@ module _ (ctx : Setting) where
       (ap (λ n. compares j n (pos 0)) (number_moved ctx u) ∙ e))
       (subst (λ q. N k c (pos_of q a1 (moved lay u ∷ ops)) (rest Normal u s1))
       (sym (target_is C ds n _ _ q.1))
-      (hand ctx set s1 k c xs ops r rest (ap is_void er) ready _ (next C q.1) u s1 a1 (grows_same s1)
-      (subst (λ r. HasType lay s1.births r u) (sym er) hu) fit))
+      (hand ctx set s1 k c xs ops r rest (ap is_void er) ready _ (next C q.1) u s1 a1
+      (grows_same s1) (subst (λ r. HasType lay s1.births r u) (sym er) hu) fit))
   decided op2 o j b k c p n l2 set xs ops u r rest s1 a1 false dec thr app br e ihb tb eb er lt
       deep hu fit lives h ready raises =
       let r3 : Rests = follow (operates op2 u) rest in

@@ -133,12 +133,14 @@ module _ (ctx : Setting) where
       (λ p2 h2 v s2 a2 gr hv fit2.
       ihs us (expr_labels e n) k c p2 set xs (moved lay v ∷ ops)
       (λ vs. next' (v ∷ vs)) rest s2 a2 tp.3 deep fit2 lives h2
-      (λ q hq vs s3 a3 gr3 hvs fit3. ready q hq (v ∷ vs) s3 a3 (grows_on s s2 s3 gr gr3)
-      (typed_on lay s2.births s3.births u v gr3 (accepts ctx s2.births u (mark e).ty v tp.0 hv), hvs)
-      fit3)
+      (λ q hq vs s3 a3 gr3 hvs fit3.
+      let typed = accepts ctx s2.births u (mark e).ty v tp.0 hv in
+      ready q hq (v ∷ vs) s3 a3 (grows_on s s2 s3 gr gr3)
+      (typed_on lay s2.births s3.births u v gr3 typed, hvs) fit3)
       (raises_on ctx set k c c p p2 xs xs rest rest (omega (arith, h.fits, h2.fits, g2))
       (omega arith) (omega arith) (λ x v s. refl) raises)))
-      (raises_on ctx set k c c p p xs ys rest r2 (omega arith) g (omega arith) (λ x v s. refl) raises)
+      (raises_on ctx set k c c p p xs ys rest r2 (omega arith) g (omega arith) (λ x v s. refl)
+      raises)
 
   pub result_ready : (set : List ℕ) (s s2 : State) (k c : ℕ) (xs : List Item) (ops : List MVal)
       (u z : Ty) (rest : Rests) → u ≡ z → Grows s s2
@@ -188,8 +190,8 @@ module _ (ctx : Setting) where
       (result_ready set s s2 k c xs ops m.ty tp.0.result rest tp.2 (grows_on s s1 s2 gr gr2) ready)
       (raises_on ctx set k c c p q xs xs rest rest (omega (arith, h.fits, hq.fits, g, g2))
       (omega arith) (omega arith) (λ x v s. refl) raises)))
-      (raises_on ctx set k c (c + 16) p p2 xs (x ∷ xs) rest rest (omega (arith, h.fits, h2.fits, g2))
-      (omega arith) (omega arith) (λ x v s. refl) raises)))
+      (raises_on ctx set k c (c + 16) p p2 xs (x ∷ xs) rest rest
+      (omega (arith, h.fits, h2.fits, g2)) (omega arith) (omega arith) (λ x v s. refl) raises)))
       (raises_on ctx set k c (c + 16) p p xs ys rest r2 (omega arith) (omega (arith, g))
       (omega arith) (λ x v s. refl) raises))
 

@@ -135,8 +135,8 @@ module _ (ctx : Setting) where
       (negated (number_of v)))) rest) s a tp.2 deep fit tt h
       (giv ctx set s k (c + 16) (Op Ineg ∷ xs) ops (mark e).ty ty.Int (follow (λ v. gives (value.Int
       (negated (number_of v)))) rest) tp.1 refl
-      (λ p2 h2 v s2 a2 gr ht fit2. makes ctx k c (c + 16) p2 (Op Ineg) xs Negate a2 (moved lay v ∷ ops)
-      ops (value.Int (negated (number_of v))) _ (omega arith) h2 lives refl
+      (λ p2 h2 v s2 a2 gr ht fit2. makes ctx k c (c + 16) p2 (Op Ineg) xs Negate a2
+      (moved lay v ∷ ops) ops (value.Int (negated (number_of v))) _ (omega arith) h2 lives refl
       (record {
         enough = omega arith;
         fits = one_fits ctx _ (int_fits ctx s2.births v ht);
@@ -184,14 +184,15 @@ module _ (ctx : Setting) where
       (ap (λ b. jumps_if b (pos (target C.items n) -ℤ pos p2) (with a2 ops))
       (ap (λ n. compares 0 n (pos 0)) (number_moved ctx v) ∙ sym (not_not _)))
       (hand_truth ctx set s k c xs ops m.ty rest (not (is_true v)) s2 a2 tp.0 ready gr fit2)))
-      (raises_on ctx set k c (c + 16) p p xs (test_code 153 n xs) rest (follow (λ v. gives (truth (not
-      (is_true v)))) rest) (omega arith) (omega arith) (omega arith) (λ x v s. refl) raises))
+      (raises_on ctx set k c (c + 16) p p xs (test_code 153 n xs) rest
+      (follow (λ v. gives (truth (not (is_true v)))) rest)
+      (omega arith) (omega arith) (omega arith) (λ x v s. refl) raises))
 
   pub null_ok : (m : Mark) → H (Null m)
   unfolding eval expr_code Typed mark effect
   null_ok m n k c p set xs ops rest s a tp deep fit lives h ready raises =
-      spend ctx k c _ _ (makes ctx k c (c + 16) p (Op AconstNull) xs PushNull a ops ops value.Null _ (omega
-      arith) h lives refl
+      spend ctx k c _ _ (makes ctx k c (c + 16) p (Op AconstNull) xs PushNull a ops ops value.Null _
+      (omega arith) h lives refl
       (record {
         enough = omega arith;
         fits = refl;
@@ -211,8 +212,8 @@ module _ (ctx : Setting) where
   pub this_ok : (m : Mark) → H (This m)
   unfolding eval expr_code Typed mark
   this_ok m n k c p set xs ops rest s a tp deep fit lives h ready raises =
-      spend ctx k c _ _ (loads ctx k c p 0 set kind.AnyObject (Op (AloadShort 0)) xs ops s a _ refl h
-      lives fit tp.2 (omega (arith, tp.1))
+      spend ctx k c _ _ (loads ctx k c p 0 set kind.AnyObject (Op (AloadShort 0)) xs ops s a _ refl
+      h lives fit tp.2 (omega (arith, tp.1))
       (any_fits lay env.names (s.locals 0) (reference_is lay s.births (tys 0)
       (s.locals 0) tp.3 tp.4 (fit.locals_are 0 tp.2).1))
       (hand ctx set s k c xs ops m.ty rest (ap is_void tp.0
@@ -371,8 +372,8 @@ module _ (ctx : Setting) where
       fails ctx k (c + 16) p 1 (codes "NullPointerException") set
       (Member 180 (w.class cl) (w.field cl f) (w.field_type cl f)) xs (GetField fl)
       (value.Null ∷ ops) nothing s2 a2 rest lays.null_pointer lays.one_thrown h
-      (ap (λ l. silent (op.of_field GetField (op.Misnamed (kind.AnyObject ∷ []) 1) l) (suc (lead xs)))
-      (lays.own_link cl f u own))
+      (ap (λ l. silent (op.of_field GetField (op.Misnamed (kind.AnyObject ∷ []) 1) l)
+      (suc (lead xs))) (lays.own_link cl f u own))
       (record {
         enough = omega arith;
         fits = refl;
@@ -400,8 +401,8 @@ module _ (ctx : Setting) where
       makes ctx k c (c + 16) p (Member 180 (w.class cl) (w.field cl f)
       (w.field_type cl f)) xs (GetField fl) a2 (value.Ref (lay.number d) n ∷ ops) ops (moved
       lay (s2.fields cl n f)) _ (omega arith) h lives
-      (ap (λ l. silent (op.of_field GetField (op.Misnamed (kind.AnyObject ∷ []) 1) l) (suc (lead xs)))
-      (lays.own_link cl f u own))
+      (ap (λ l. silent (op.of_field GetField (op.Misnamed (kind.AnyObject ∷ []) 1) l)
+      (suc (lead xs))) (lays.own_link cl f u own))
       (record {
         enough = omega arith;
         fits = one_fits ctx _ (class_fits env w lay t lays s2.births cl
@@ -433,8 +434,8 @@ module _ (ctx : Setting) where
       (tested b v (read (λ s. s.fields cl (object_number v) f)) rest s2)) (sym tp.2)
       (read_ok cl f k c p2 n m.ty set xs ops rest s2 a2 v tp.0 (omega (arith, tp.4)) ht fit2 lives
       h2
-      (λ q hq z s3 a3 gr3. hand ctx set s k c xs ops m.ty rest (not_void m.ty (lays.own_value cl f m.ty
-      tp.0)) ready q hq z s3 a3 (grows_on s s2 s3 gr gr3))
+      (λ q hq z s3 a3 gr3. hand ctx set s k c xs ops m.ty rest
+      (not_void m.ty (lays.own_value cl f m.ty tp.0)) ready q hq z s3 a3 (grows_on s s2 s3 gr gr3))
       (raises_on ctx set k c c p p2 xs xs rest rest (let g = expr_grows w e n (x ∷ xs) in omega (
         arith,
         h.fits,
@@ -483,8 +484,8 @@ module _ (ctx : Setting) where
       (ap (λ n. Happens (Born (w.class cl) n) (with a' (value.Ref (lay.number cl) n ∷ ops)))
       (fit.many_are cl tp.2))
       refl
-      (makes ctx k (c + 5) (c + 8) (suc p) (Op Dup) (init_item (w.class cl) ∷ xs) Copy a' (ref ∷ ops)
-      (ref ∷ ops) ref _ (omega arith) h1 tt refl
+      (makes ctx k (c + 5) (c + 8) (suc p) (Op Dup) (init_item (w.class cl) ∷ xs) Copy a'
+      (ref ∷ ops) (ref ∷ ops) ref _ (omega arith) h1 tt refl
       (record {
         enough = omega arith;
         fits = refl;

@@ -1,5 +1,5 @@
--- The classes of loaded files and the two exceptions that every program has: their numbers, and what
--- their names and their initializers are to an instruction.
+-- The classes of loaded files and the two exceptions that every program has: their numbers, and
+-- what their names and their initializers are to an instruction.
 use Rattle.std.proofs.Common.{◌≡◌, ℕ, zero, suc, ◌+◌, ◌<◌, Bool, true, false, cond, ◌==◌}
 use Rattle.std.proofs.Common.{List, [], ◌∷◌, length, map, Option, Some, None, slice_get}
 use Rattle.std.proofs.Common.{is_some, refl, sym, ap, ◌∙◌, arith, codes}
@@ -92,8 +92,8 @@ listed-behind k (f ∷ files) i less =
 
     in_case : (b : Bool)
         → list_any (λ d. d == k + suc (length files) + i) (exceptions_from (suc k) files) ≡ true
-        → list_any (λ d. d == k + suc (length files) + i) (cond b (k ∷ exceptions_from (suc k) files)
-        (exceptions_from (suc k) files)) ≡ true
+        → list_any (λ d. d == k + suc (length files) + i)
+        (cond b (k ∷ exceptions_from (suc k) files) (exceptions_from (suc k) files)) ≡ true
     in_case true later = or_right (k == k + suc (length files) + i) _ later
     in_case false later = later
 
@@ -116,8 +116,8 @@ pub record Raised (table : Table) (files : List ClassFile) (c : ℕ) : Type 0 wh
     is_made = true;
   })
   pub made : method_of_name files (class_word table c) (codes "<init>") (codes "()V")
-      ≡ link.Method (initializer (Object (class_word table c)) (init_target (number_of files table c)
-      (init_place files table c)))
+      ≡ link.Method (initializer (Object (class_word table c))
+      (init_target (number_of files table c) (init_place files table c)))
   pub takes : is_of_exceptions (method_declared files (member (class_word table c) (codes "<init>")
       (codes "()V"))) ≡ false
   pub listed : list_any (λ d. d == number_of files table c) (exceptions files) ≡ true
@@ -136,7 +136,8 @@ abbrev made_as : Name → ℕ → Option ℕ → Link
 made_as name number at = link.Method (initializer (Object name) (init_target number at))
 
 initializer-computed : (n : ℕ) (name : Name)
-    → callee n 0 name (codes "<init>") (codes "()V") (member_access false) 1 ≡ made_as name n (Some 0)
+    → callee n 0 name (codes "<init>") (codes "()V") (member_access false) 1
+    ≡ made_as name n (Some 0)
 unfolding kind_at kinds_in
 initializer-computed n name = refl
 

@@ -104,7 +104,8 @@ module _ (table : Table) (bodies : List Body) (files : List ClassFile)
   stands-there n file listed =
       let of = known.each n file listed in
       let word : class_word table of.0 ≡ own_name file =
-      word-is table of.0 of.1.class of.1.there ∙ sym (own-is table bodies files known of.0 file of.1)
+      word-is table of.0 of.1.class of.1.there
+      ∙ sym (own-is table bodies files known of.0 file of.1)
       in (
         of.0,
         record {
@@ -126,7 +127,8 @@ module _ (table : Table) (bodies : List Body) (files : List ClassFile)
   class-number : class_of table (own_name s.file) ≡ c
   class-number =
       let name = own_name s.file in
-      let named = own-said table bodies files known c n s ∙ word-said table bodies files known c n s in
+      let named =
+      own-said table bodies files known c n s ∙ word-said table bodies files known c n s in
       first-alone (λ (class : ClassInfo). bytes_eq name class.name) table.classes c s.class s.there
       (ap (bytes_eq name) (sym named) ∙ text-itself name)
       (λ k class at same. one-class table bodies files known k c class s.class at s.there
@@ -165,7 +167,8 @@ module _ (table : Table) (bodies : List Body) (files : List ClassFile)
   -- ---- initializers
 
   initializer-there : code_at table bodies files n 0 ≡ form.initializer_of s.class
-  initializer-there = code-there 0 (form.initializer s.class) (initializer-at table bodies c s.class)
+  initializer-there =
+      code-there 0 (form.initializer s.class) (initializer-at table bodies c s.class)
 
   gives-nothing : (signature_said (method_descriptor files n 0)).gives ≡ None
   unfolding kind_at kinds_in
@@ -217,7 +220,8 @@ gives-same table ty.Void = refl
 module _ (table : Table) (bodies : List Body) (files : List ClassFile)
     (known : Known table bodies files) (c n : ℕ) (s : Stands table bodies files c n)
     (i : ℕ) (me : Meth) (is : MethodIn bodies s.class c i me) where
-  result-there : (signature_said (method_descriptor files n (suc (length s.class.channels + i)))).gives
+  result-there
+      : (signature_said (method_descriptor files n (suc (length s.class.channels + i)))).gives
       ≡ given_kind (words_of table) is.info.result
   result-there =
       ap (λ (of_type : Name). (signature_said of_type).gives)
@@ -358,7 +362,8 @@ module _ (table : Table) (bodies : List Body) (files : List ClassFile)
           i,
           meth info body,
           loaded-method table bodies files known c n s.placed i
-              ∙ ap (λ (o : Option ClassInfo). may_meth (slice_get (methods_in o) i) (body_of bodies c i))
+              ∙ ap
+              (λ (o : Option ClassInfo). may_meth (slice_get (methods_in o) i) (body_of bodies c i))
               s.there
               ∙ ap (λ (o : Option MethodInfo). may_meth o (body_of bodies c i)) has
               ∙ ap (may_meth (Some info)) body_is,

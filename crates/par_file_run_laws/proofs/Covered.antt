@@ -168,7 +168,8 @@ module _ (table : Table) (bodies : List Body) (files : List ClassFile)
         (or_cases (bytes_eq (class_word table c) (codes "ArithmeticException")) _ is)
     in_case false is =
         let plain : full_name (class_word table c) ≡ class_word table c =
-        ap (λ (b : Bool). cond b (codes "java/lang/" ++ class_word table c) (class_word table c)) is in
+        ap (λ (b : Bool). cond b (codes "java/lang/" ++ class_word table c) (class_word table c))
+        is in
         absurd (cc (sym pass
         ∙ ap (λ (name : Name). not (is_nothing (class_named files name))) plain
         ∙ ap (λ o. not (is_nothing (class_of o (class_place files (class_word table c)))))
@@ -267,7 +268,8 @@ module _ (table : Table) (bodies : List Body) (files : List ClassFile)
       let w = words_of table in
       let place : ℕ = suc (length s.class.channels + i) in
       let in_file =
-      there table bodies files known c found.0 s place (method table bodies is.info (body_of bodies c i))
+      there table bodies files known c found.0 s place
+      (method table bodies is.info (body_of bodies c i))
       (method-at table bodies c s.class i is.info is.has) in
       let same : is.body ≡ me.body = ap (λ (x : Meth). x.body) is.is in
       let closed = known.closed found.0 s.file s.listed in

@@ -37,7 +37,8 @@ same-arrivals : (m : MethodInfo) → arrivals (erased_method m) ≡ arrivals m
 same-arrivals m =
     ap (λ (l : ℕ). cond m.is_static l (suc l)) (length-map m.params erased_param)
 
-module _ (t : Table) (built_in : HasBuiltIns t) (signed : AreSigned t) (in_range : IsInRange t) where
+module _ (t : Table) (built_in : HasBuiltIns t) (signed : AreSigned t)
+    (in_range : IsInRange t) where
   -- a class of the erased table is an erased one
   exceptions : (c : ℕ) (class : ClassInfo) → c < 2
       → slice_get (erased_table t).classes c ≡ Some class → class.exception ≡ true
@@ -70,9 +71,11 @@ module _ (t : Table) (built_in : HasBuiltIns t) (signed : AreSigned t) (in_range
       let method =
       mapped-from erased_method from.item.methods i m
       (ap (λ (x : ClassInfo). slice_get x.methods i) from.gives ∙ at) in
-      let class_fits = each-item (ClassInRange t) t.classes in_range.classes c from.item from.stands in
+      let class_fits =
+      each-item (ClassInRange t) t.classes in_range.classes c from.item from.stands in
       let fits =
-      each-item (MethodInRange t) from.item.methods class_fits.methods i method.item method.stands in
+      each-item (MethodInRange t) from.item.methods class_fits.methods i method.item
+      method.stands in
       let few : arrivals method.item ≤ length method.item.locals = fits.arrive in
       let same = same-arrivals method.item in
       let erased : arrivals (erased_method method.item) ≤ length method.item.locals =

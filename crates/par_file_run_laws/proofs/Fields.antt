@@ -120,7 +120,8 @@ module _ (table : Table) (bodies : List Body) (files : List ClassFile)
       ∙ ap (λ (o : Option FieldInfo). of_field o (λ k. descriptor table k.ty)) has
 
   -- it is the first of its name and descriptor
-  placed-first : position (is_same (member (class_word table c) info.name (descriptor table info.ty)))
+  placed-first : position
+      (is_same (member (class_word table c) info.name (descriptor table info.ty)))
       (fields_of s.file) ≡ Some f
   placed-first =
       let entries = s.file.pool.entries in

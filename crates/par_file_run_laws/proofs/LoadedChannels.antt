@@ -99,7 +99,8 @@ module _ (table : Table) (bodies : List Body) (files : List ClassFile)
       let name = (words_of table).channel c k in
       channel-linked table bodies files known c n s k true is
       ∙ input-computed n (suc k) (class_word table c) name
-      ∙ ap (λ (b : Bool). native (class_word table c) [] true b (to.Input (class_word table c) name))
+      ∙ ap (λ (b : Bool). native (class_word table c) [] true b
+      (to.Input (class_word table c) name))
       (and_right (bytes_eq name (codes "<init>")) false refl)
 
   pub output-linked : ChannelIn s.class k false

@@ -233,7 +233,8 @@ module _ (table : Table) (bodies : List Body) (files : List ClassFile)
 
   pub takes-values : OfValues me.takes
   takes-values =
-      subst (λ (x : Meth). OfValues x.takes) is.is (of-values table is.info.params of-class.1.params)
+      subst (λ (x : Meth). OfValues x.takes) is.is
+      (of-values table is.info.params of-class.1.params)
 
   pub has-room : length (given_types c me) ≤ me.many
   has-room =

@@ -89,4 +89,5 @@ module _ (table : Table) (bodies : List Body) (files : List ClassFile)
         subst PlacedIn (sym of.1.listed) (of-file of.0 n of.1)
 
 pub code_is_placed : CodeIsPlaced
-code_is_placed table bodies files known class method = in-files table bodies files known method class
+code_is_placed table bodies files known class method =
+    in-files table bodies files known method class

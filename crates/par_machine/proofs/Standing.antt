@@ -93,7 +93,8 @@ plain_constant (link.Class c) = record { fork = refl; distance = refl }
 plain_constant link.Other = record { fork = refl; distance = refl }
 
 plain_field : (form : FieldLink → Operation) (kinds : List Kind) (k : ℕ)
-    → ((f : FieldLink) → IsPlain (form f)) → (l : Link) → IsPlain (of_field form (Misnamed kinds k) l)
+    → ((f : FieldLink) → IsPlain (form f)) → (l : Link)
+    → IsPlain (of_field form (Misnamed kinds k) l)
 plain_field form kinds k is (link.Number v) = record { fork = refl; distance = refl }
 plain_field form kinds k is (link.Field f) = is f
 plain_field form kinds k is (link.Method f) = record { fork = refl; distance = refl }
@@ -101,7 +102,8 @@ plain_field form kinds k is (link.Class c) = record { fork = refl; distance = re
 plain_field form kinds k is link.Other = record { fork = refl; distance = refl }
 
 plain_method : (form : MethodLink → Operation) (kinds : List Kind) (k : ℕ)
-    → ((m : MethodLink) → IsPlain (form m)) → (l : Link) → IsPlain (of_method form (Misnamed kinds k) l)
+    → ((m : MethodLink) → IsPlain (form m)) → (l : Link)
+    → IsPlain (of_method form (Misnamed kinds k) l)
 plain_method form kinds k is (link.Number v) = record { fork = refl; distance = refl }
 plain_method form kinds k is (link.Field f) = record { fork = refl; distance = refl }
 plain_method form kinds k is (link.Method m) = is m

@@ -7,8 +7,14 @@ use std::test::Fail;
 
 // A class `Shop` with a static `main` and an input channel `key`. Constant 2 names the class
 // itself, 4 that of all objects, 11 the channel, and 13 the class of locks.
-const SHOP: &[u8] =
-    b"\xca\xfe\xba\xbe\0\0\01\0\x0e\x01\0\x04Shop\x07\0\x01\x01\0\x10java/lang/Object\x07\0\x03\x01\0\x04main\x01\0\x03()V\x01\0\x04Code\x01\0\x03key\x01\0\x03()I\x0c\0\x08\0\x09\x0a\0\x02\0\x0a\x01\0\x0dparagon/Locks\x07\0\x0c\01\0\x02\0\x04\0\0\0\0\0\x02\0\x09\0\x05\0\x06\0\x01\0\x07\0\0\0\x0d\0\x02\0\0\0\0\0\x01\xb1\0\0\0\0\x01\x09\0\x08\0\x09\0\0\0\0";
+const SHOP: &[u8] = b"\
+    \xca\xfe\xba\xbe\0\0\01\0\x0e\x01\0\x04Shop\x07\0\x01\x01\0\x10java/lang/Object\x07\0\x03\
+    \x01\0\x04main\x01\0\x03()V\x01\0\x04Code\
+    \x01\0\x03key\x01\0\x03()I\x0c\0\x08\0\x09\x0a\0\x02\0\x0a\
+    \x01\0\x0dparagon/Locks\x07\0\x0c\
+    \01\0\x02\0\x04\0\0\0\0\0\x02\
+    \0\x09\0\x05\0\x06\0\x01\0\x07\0\0\0\x0d\0\x02\0\0\0\0\0\x01\xb1\0\0\0\0\
+    \x01\x09\0\x08\0\x09\0\0\0\0";
 
 // Whether the file at a place has so many methods, where there is one.
 fn has_methods(linked: &Linked, place: u16, many: Option<usize>) -> bool {

@@ -17,12 +17,21 @@ use std::test::Fail;
 // A class `Shop` up to the code of its method `main`. Its pool names the static field `got` of
 // type int by 11, the output channel `show` by 15, the input channel `ask` by 19, the method
 // `more` by 22 and the number 2147483647 by 23.
-const HEAD: &[u8] =
-    b"\xca\xfe\xba\xbe\0\0\01\0\x18\x01\0\x04Shop\x07\0\x01\x01\0\x10java/lang/Object\x07\0\x03\x01\0\x04main\x01\0\x03()V\x01\0\x04Code\x01\0\x03got\x01\0\x01I\x0c\0\x08\0\x09\x09\0\x02\0\x0a\x01\0\x04show\x01\0\x04(I)V\x0c\0\x0c\0\x0d\x0a\0\x02\0\x0e\x01\0\x03ask\x01\0\x03()I\x0c\0\x10\0\x11\x0a\0\x02\0\x12\x01\0\x04more\x0c\0\x14\0\x06\x0a\0\x02\0\x15\x03\x7f\xff\xff\xff\0\x01\0\x02\0\x04\0\0\0\x01\0\x09\0\x08\0\x09\0\0\0\x04\0\x09\0\x05\0\x06\0\x01\0\x07\0\0\0";
+const HEAD: &[u8] = b"\
+    \xca\xfe\xba\xbe\0\0\01\0\x18\x01\0\x04Shop\x07\0\x01\x01\0\x10java/lang/Object\x07\0\x03\
+    \x01\0\x04main\x01\0\x03()V\x01\0\x04Code\
+    \x01\0\x03got\x01\0\x01I\x0c\0\x08\0\x09\x09\0\x02\0\x0a\
+    \x01\0\x04show\x01\0\x04(I)V\x0c\0\x0c\0\x0d\x0a\0\x02\0\x0e\
+    \x01\0\x03ask\x01\0\x03()I\x0c\0\x10\0\x11\x0a\0\x02\0\x12\
+    \x01\0\x04more\x0c\0\x14\0\x06\x0a\0\x02\0\x15\x03\x7f\xff\xff\xff\
+    \0\x01\0\x02\0\x04\0\0\0\x01\0\x09\0\x08\0\x09\0\0\0\x04\
+    \0\x09\0\x05\0\x06\0\x01\0\x07\0\0\0";
 
 // What stands behind it: the channels, and `more`, which adds 2 to `got`.
-const TAIL: &[u8] =
-    b"\0\0\0\0\x01\x09\0\x0c\0\x0d\0\0\x01\x09\0\x10\0\x11\0\0\0\x09\0\x14\0\x06\0\x01\0\x07\0\0\0\x15\0\x02\0\0\0\0\0\x09\xb2\0\x0b\x05\x60\xb3\0\x0b\xb1\0\0\0\0\0\0";
+const TAIL: &[u8] = b"\
+    \0\0\0\0\x01\x09\0\x0c\0\x0d\0\0\x01\x09\0\x10\0\x11\0\0\
+    \0\x09\0\x14\0\x06\0\x01\0\x07\0\0\0\x15\0\x02\0\0\0\0\0\x09\
+    \xb2\0\x0b\x05\x60\xb3\0\x0b\xb1\0\0\0\0\0\0";
 
 // The code of `main`, the numbers of the events that it makes, and where bad code is met, with the
 // number of the reason (Java Virtual Machine Specification, Java SE 7, section 6.5).

@@ -7,8 +7,12 @@ use std::alloc::Global;
 use std::test::Fail;
 
 // A class `Shop` of version 51. Its `main` jumps to offset 5, of which a frame is told.
-const SHOP: &[u8] =
-    b"\xca\xfe\xba\xbe\0\0\03\0\x09\x01\0\x04Shop\x07\0\x01\x01\0\x10java/lang/Object\x07\0\x03\x01\0\x04main\x01\0\x03()V\x01\0\x04Code\x01\0\x0dStackMapTable\0\x01\0\x02\0\x04\0\0\0\0\0\x01\0\x09\0\x05\0\x06\0\x01\0\x07\0\0\0\x1b\0\x01\0\0\0\0\0\x06\x03W\xa7\0\x03\xb1\0\0\0\x01\0\x08\0\0\0\x03\0\x01\x05\0\0";
+const SHOP: &[u8] = b"\
+    \xca\xfe\xba\xbe\0\0\03\0\x09\x01\0\x04Shop\x07\0\x01\x01\0\x10java/lang/Object\x07\0\x03\
+    \x01\0\x04main\x01\0\x03()V\x01\0\x04Code\x01\0\x0dStackMapTable\
+    \0\x01\0\x02\0\x04\0\0\0\0\0\x01\
+    \0\x09\0\x05\0\x06\0\x01\0\x07\0\0\0\x1b\0\x01\0\0\0\0\0\x06\
+    \x03W\xa7\0\x03\xb1\0\0\0\x01\0\x08\0\0\0\x03\0\x01\x05\0\0";
 
 fn check_verified(alloc: Global, linked: &Linked) -> Result<(), Fail> {
     let Ok(frames) = program_frames(alloc, linked) else {

@@ -214,8 +214,11 @@ fn input_files_are_read(rt: HostRuntime) -> Result<(), Fail> {
 
 // A class `Shop` with a static method `main` without arguments and result, with one operand and no
 // local: first what stands before its two bytes of code, and then what stands behind them.
-const BEFORE: &[u8] =
-    b"\xCA\xFE\xBA\xBE\0\0\0\x31\0\x08\x01\0\x04Shop\x07\0\x01\x01\0\x10java/lang/Object\x07\0\x03\x01\0\x04main\x01\0\x03()V\x01\0\x04Code\0\x31\0\x02\0\x04\0\0\0\0\0\x01\0\x09\0\x05\0\x06\0\x01\0\x07\0\0\0\x0e\0\x01\0\0\0\0\0\x02";
+const BEFORE: &[u8] = b"\
+    \xCA\xFE\xBA\xBE\0\0\0\x31\0\x08\x01\0\x04Shop\x07\0\x01\x01\0\x10java/lang/Object\x07\0\x03\
+    \x01\0\x04main\x01\0\x03()V\x01\0\x04Code\
+    \0\x31\0\x02\0\x04\0\0\0\0\0\x01\
+    \0\x09\0\x05\0\x06\0\x01\0\x07\0\0\0\x0e\0\x01\0\0\0\0\0\x02";
 
 const BEHIND: &[u8] = b"\0\0\0\0\0\0";
 

@@ -112,15 +112,9 @@ impl<'a> Known<'a> {
             p ≡ value_at self.now.values.items
             (position (bytes_eq name.now) (known_seen self.now).names)) }
     {
-        match self.names.place(name) {
-            None => Ok(None),
-            Some(place) => self.value(place),
-        }
-    }
-
-    fn value(&self, place: usize) -> Result<Option<Policy>, NoMemory>
-        ensures { IfOk result (λ p. p ≡ value_at self.now.values.items (Some place)) }
-    {
+        let Some(place) = self.names.place(name) else {
+            return Ok(None);
+        };
         match self.values.get(place) {
             None => Ok(None),
             Some(None) => Ok(None),

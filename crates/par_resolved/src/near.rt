@@ -71,15 +71,10 @@ fn is_nearest(near: &Clause, clause: &Clause, others: &[Clause]) -> bool
     ensures { result ≡ list_all (is_near clause.now near.now) others.now }
 {
     match added_bits(near, clause) {
-        None => each_adds_more(near, clause, others),
+        None => others.iter().all(|other| other.actor != clause.actor
+            || has_only_locks_of(near, clause, other)),
         Some(added) => each_has(&added, near, clause, others),
     }
-}
-
-fn each_adds_more(near: &Clause, clause: &Clause, others: &[Clause]) -> bool
-    ensures { result ≡ list_all (is_near clause.now near.now) others.now }
-{
-    others.iter().all(|other| other.actor != clause.actor || has_only_locks_of(near, clause, other))
 }
 
 // The locks that the near one adds to the clause, where they are kept as bits.

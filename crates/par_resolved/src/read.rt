@@ -8,15 +8,10 @@ use par_typed::par_policy::Policy;
 use std::alloc::Global;
 
 /// An expression, and the policy that it comes to.
+#[derive(Drop)]
 pub(crate) struct Read<'a> {
     pub(crate) expr: &'a PolicyExpr,
     pub(crate) policy: Policy,
-}
-
-impl Drop for Read<'_> {
-    fn drop(self) {
-        let Read { expr: _, policy: _ } = self;
-    }
 }
 
 /// Notes what the expression of the next declared policy comes to, if it is within its limits.

@@ -128,7 +128,8 @@ module _ (files : Option Files) (before after : FolderCounts) (file inputs : Tex
 
   -- where an answer stands in the place of the run
   pub tells_untraced : (bound result : ℕ) (a : Answer) → Untraced files before after file inputs a
-      → IsSaidBy result (status a) → TellsSource (Judges (Traces files inputs bound)) files file result
+      → IsSaidBy result (status a)
+      → TellsSource (Judges (Traces files inputs bound)) files file result
   tells_untraced bound result a h said =
       tells_source Verdict files before after file (Traces files inputs bound) result a
       (untraced_found a h) (accepts bound result a said) (λ source. refuses source a) said

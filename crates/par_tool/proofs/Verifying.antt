@@ -1,6 +1,6 @@
 -- From how class files are loaded and linked to what their verification comes to.
-use Rattle.std.proofs.Common.{◌≡◌, ℕ, suc, ◌<◌, length, List, [], ◌∷◌, IfOk, IfErr, Option, Some, Result, Ok}
-use Rattle.std.proofs.Common.{Err, refl, sym, subst, inl, inr}
+use Rattle.std.proofs.Common.{◌≡◌, ℕ, suc, ◌<◌, length, List, [], ◌∷◌, IfOk, IfErr, Option, Some}
+use Rattle.std.proofs.Common.{Result, Ok, Err, refl, sym, subst, inl, inr}
 use Rattle.std.specs.Bool.{OnFalse}
 use Rattle.std.specs.List.{slice_get, AllZip}
 use Rattle.std.specs.Prelude.{Bool, true, false}

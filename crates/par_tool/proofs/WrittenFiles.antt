@@ -313,7 +313,8 @@ module _ (s : Scene) (main inputs : Text) (steps : ℕ) (typed : Typed)
               let whole_run : ran ≡ shown_run (runs.source typed (inputs_in bytes) n) =
               is_run ∙ ap (λ (t : Text). machine_run h.all main (inputs_in t) steps) here
               ∙ run_whole many h.all h.linked bytes fitting.right
-              (subst (λ (t : Text). first_misfit h.all (entries (lines_of t)) ≡ None) here given.fit)
+              (subst (λ (t : Text). first_misfit h.all (entries (lines_of t)) ≡ None) here
+              given.fit)
               n ends enough in
               tells (subst (λ (r : Ran). Said (told.status r.ending) (told.lines r) result old new
               f g) whole_run said);

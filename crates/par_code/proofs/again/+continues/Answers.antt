@@ -49,7 +49,8 @@ pub continues-returns-in-Block : goal.continues-returns-in-Block
 continues-returns-in-Block t c = λ i. grind (arith, plain.does_block, forms.continues_block)
 
 pub continues-returns-in-Continue : goal.continues-returns-in-Continue
-continues-returns-in-Continue t c = λ i. grind (arith, plain.does_continue, forms.continues_continue)
+continues-returns-in-Continue t c = λ i.
+    grind (arith, plain.does_continue, forms.continues_continue)
 
 pub continues-returns-in-While : goal.continues-returns-in-While
 continues-returns-in-While t c = λ i. grind (arith, plain.does_while, forms.continues_while)
@@ -64,13 +65,16 @@ pub continues-returns-in-Throw : goal.continues-returns-in-Throw
 continues-returns-in-Throw t c = λ i. grind (arith, plain.does_throw, forms.continues_throw)
 
 pub continues-returns-in-SetLocal : goal.continues-returns-in-SetLocal
-continues-returns-in-SetLocal t c = λ i. grind (arith, plain.does_set_local, forms.continues_set_local)
+continues-returns-in-SetLocal t c = λ i.
+    grind (arith, plain.does_set_local, forms.continues_set_local)
 
 pub continues-returns-in-SetStatic : goal.continues-returns-in-SetStatic
-continues-returns-in-SetStatic t c = λ i. grind (arith, plain.does_set_static, forms.continues_set_static)
+continues-returns-in-SetStatic t c = λ i.
+    grind (arith, plain.does_set_static, forms.continues_set_static)
 
 pub continues-returns-in-SetField : goal.continues-returns-in-SetField
-continues-returns-in-SetField t c = λ i. grind (arith, plain.does_set_field, forms.continues_set_field)
+continues-returns-in-SetField t c = λ i.
+    grind (arith, plain.does_set_field, forms.continues_set_field)
 
 pub continues-returns-in-Eval : goal.continues-returns-in-Eval
 continues-returns-in-Eval t c = λ i. grind (arith, plain.does_eval, forms.continues_eval)

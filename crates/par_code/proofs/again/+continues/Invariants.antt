@@ -9,7 +9,8 @@ invariant-some_continue-loop-stmt l =
     (i : ℕ → ℕ) → some_continue (all_do i (drop l.stmt-index l.stmts))
     ≡ some_continue (all_do i l.stmts)
 
-abbrev pub invariant-some_catch_continues-loop-catch : goal.invariant-some_catch_continues-loop-catch
+abbrev pub invariant-some_catch_continues-loop-catch
+    : goal.invariant-some_catch_continues-loop-catch
 invariant-some_catch_continues-loop-catch l =
     (i : ℕ → ℕ) → some_catch_continues (all_catch i (drop l.catch-index l.catches))
     ≡ some_catch_continues (all_catch i l.catches)

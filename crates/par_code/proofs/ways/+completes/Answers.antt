@@ -48,19 +48,23 @@ pub completes-returns-in-Break : goal.completes-returns-in-Break
 completes-returns-in-Break t c = λ i. grind (arith, plain.does_break, forms.completes_break)
 
 pub completes-returns-in-Continue : goal.completes-returns-in-Continue
-completes-returns-in-Continue t c = λ i. grind (arith, plain.does_continue, forms.completes_continue)
+completes-returns-in-Continue t c = λ i.
+    grind (arith, plain.does_continue, forms.completes_continue)
 
 pub completes-returns-in-Throw : goal.completes-returns-in-Throw
 completes-returns-in-Throw t c = λ i. grind (arith, plain.does_throw, forms.completes_throw)
 
 pub completes-returns-in-SetLocal : goal.completes-returns-in-SetLocal
-completes-returns-in-SetLocal t c = λ i. grind (arith, plain.does_set_local, forms.completes_set_local)
+completes-returns-in-SetLocal t c = λ i.
+    grind (arith, plain.does_set_local, forms.completes_set_local)
 
 pub completes-returns-in-SetStatic : goal.completes-returns-in-SetStatic
-completes-returns-in-SetStatic t c = λ i. grind (arith, plain.does_set_static, forms.completes_set_static)
+completes-returns-in-SetStatic t c = λ i.
+    grind (arith, plain.does_set_static, forms.completes_set_static)
 
 pub completes-returns-in-SetField : goal.completes-returns-in-SetField
-completes-returns-in-SetField t c = λ i. grind (arith, plain.does_set_field, forms.completes_set_field)
+completes-returns-in-SetField t c = λ i.
+    grind (arith, plain.does_set_field, forms.completes_set_field)
 
 pub completes-returns-in-Eval : goal.completes-returns-in-Eval
 completes-returns-in-Eval t c = λ i. grind (arith, plain.does_eval, forms.completes_eval)

@@ -43,8 +43,10 @@ put_members-requires-clause-room c =
     let fields = c.as_slice.result.now in
     class_room c.args.frames c.args.plain.now c.args.class.now fields
     (methods_classes c.args.frames c.args.plain.now c.args.class.now.methods) c.args.draft.now.pool
-    c.text.new.pool c.class.new.pool c.class-2.new.pool c.field_files.new.pool c.requires.pool c.as_slice.ensures
-    (extends (IsOneText (codes "Code")) c.args.draft.now.pool c.text.new.pool c.in_ok-text.ensures.grows)
+    c.text.new.pool c.class.new.pool c.class-2.new.pool c.field_files.new.pool c.requires.pool
+    c.as_slice.ensures
+    (extends (IsOneText (codes "Code")) c.args.draft.now.pool c.text.new.pool
+    c.in_ok-text.ensures.grows)
     (extends (IsOneClass c.bytes.result.now) c.text.new.pool c.class.new.pool
     c.in_ok-this_class.ensures.grows)
     (extends (IsOneClass c.above.result.now) c.class.new.pool c.class-2.new.pool

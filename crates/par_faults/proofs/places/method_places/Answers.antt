@@ -10,5 +10,6 @@ returns c =
     let at = λ (m : Method). m.id.at in
     let methods = c.args.methods.now in
     c.in_ok-push_places.ensures
-    ∙ ap (λ (ps : List ℕ). ps ++ map (λ (m : MethodDecl). m.id.at) methods) c.new-places.ensures.items
+    ∙ ap (λ (ps : List ℕ). ps ++ map (λ (m : MethodDecl). m.id.at) methods)
+    c.new-places.ensures.items
     ∙ sym (ap (map at) (methods-map methods) ∙ map-map at method methods)

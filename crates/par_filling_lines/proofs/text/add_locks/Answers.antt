@@ -16,7 +16,8 @@ returns c =
     joined-all (codes ", ") (lock_text t) c.in-Some.first.now c.in-Some.rest.now
     locks (old ++ codes " ") _ _ c.loop-lock.lock-index refl
     (c.in_ok-add_lock.ensures
-    ∙ ap (λ (s : Text). s ++ lock_text t c.in-Some.first.now) c.in_ok-extend_from_slice.ensures.items)
+    ∙ ap (λ (s : Text). s ++ lock_text t c.in-Some.first.now)
+    c.in_ok-extend_from_slice.ensures.items)
     c.loop-lock.invariant (omega (arith, c.loop-lock-test.false)) in
     all ∙ append_assoc old (codes " ") (joined_by (codes ", ") (map (lock_text t) locks))
     ∙ ap (λ (ls : List ℕ). old ++ locks_text t ls) (sym c.in-Some.ensures.cases.0)

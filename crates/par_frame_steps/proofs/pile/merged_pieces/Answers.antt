@@ -14,13 +14,13 @@ loop-place-preserved c =
       rw more one,
       c.in_ok-least.ensures.same ∙ before.1,
       rw more (merged_whole (names c.args.exceptions.now) c.args.pieces.now c.args.others.now
-          c.loop-place.place c.index-pieces-place.result c.index-others-place.result c.requires.whole
-          c.requires.others c.requires.many c.loop-place-test.true c.index-pieces-place.is
-          c.index-others-place.is
+          c.loop-place.place c.index-pieces-place.result c.index-others-place.result
+          c.requires.whole c.requires.others c.requires.many c.loop-place-test.true
+          c.index-pieces-place.is c.index-others-place.is
           all m before.2 c.in_ok-least.ensures.least),
       rw more (piece_merged (names c.args.exceptions.now) c.args.pieces.now c.args.others.now
-          c.loop-place.place c.index-pieces-place.result c.index-others-place.result c.requires.whole
-          c.requires.others c.requires.many c.loop-place-test.true c.index-pieces-place.is
-          c.index-others-place.is
+          c.loop-place.place c.index-pieces-place.result c.index-others-place.result
+          c.requires.whole c.requires.others c.requires.many c.loop-place-test.true
+          c.index-pieces-place.is c.index-others-place.is
           all m _ c.in_ok-least.ensures.least before.3),
     )

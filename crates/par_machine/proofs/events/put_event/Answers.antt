@@ -27,4 +27,5 @@ returns c = λ f is.
     ap (λ (v : Val). Put c.in_ok-class.class c.args.n c.in_ok-name.name v) c.in_ok-shown.ensures
     ∙ ap (λ (class : Name). Put class c.args.n c.in_ok-name.name written)
     (c.in_ok-class.ensures ∙ has.owned f is)
-    ∙ ap (λ (name : Name). Put f.class c.args.n name written) (c.in_ok-name.ensures ∙ has.named f is)
+    ∙ ap (λ (name : Name). Put f.class c.args.n name written)
+    (c.in_ok-name.ensures ∙ has.named f is)

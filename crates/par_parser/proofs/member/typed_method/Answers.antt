@@ -12,8 +12,10 @@ use Rattle.par_parser.proofs.member.typed_method.Goals as goal
 pub returns-clause-read : goal.returns-clause-read
 returns-clause-read c =
     continued paragon founded (symbol.name g.Method ∷ [])
-    (reads.a_head c.args.name.now (Some c.args.ty) c.args.front ++ reads.the_members c.args.found.now)
+    (reads.a_head c.args.name.now (Some c.args.ty) c.args.front
+    ++ reads.the_members c.args.found.now)
     (λ s vs. run_builds paragon founded (symbol.name g.Method ∷ s) (input c.args.cursor.now)
-    (reads.a_typed c.args.name.now c.args.ty c.args.front ++ reads.the_members c.args.found.now ++ vs)
+    (reads.a_typed c.args.name.now c.args.ty c.args.front
+    ++ reads.the_members c.args.found.now ++ vs)
     g.SomeResult)
     c.method.ensures.read

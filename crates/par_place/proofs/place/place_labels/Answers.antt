@@ -63,8 +63,9 @@ returns-clause-placed c =
     c.deref-3.ensures.value c.deref-4.ensures.value c.in_ok-catches.ensures.added
     c.in_ok-indices.ensures.named c.in_ok-offsets.ensures.offsets c.in_ok-bytes.ensures.bytes
     c.in_ok-bytes.ensures.writable c.in_ok-bytes.ensures.short c.in_ok-catches.ensures.are)
-    c.attribute-attr.ensures.bytes c.attribute-attr.ensures.catches c.attribute-attr.ensures.max_stack
-    c.attribute-attr.ensures.max_locals c.attribute-attr.ensures.attributes c.in_ok-offsets.ensures.small
+    c.attribute-attr.ensures.bytes c.attribute-attr.ensures.catches
+    c.attribute-attr.ensures.max_stack c.attribute-attr.ensures.max_locals
+    c.attribute-attr.ensures.attributes c.in_ok-offsets.ensures.small
 
 pub returns-clause-fits : goal.returns-clause-fits
 returns-clause-fits c =
@@ -80,8 +81,9 @@ returns-clause-fits c =
     c.deref-3.ensures.value c.deref-4.ensures.value c.in_ok-catches.ensures.added
     c.in_ok-indices.ensures.named c.in_ok-offsets.ensures.offsets c.in_ok-bytes.ensures.bytes
     c.in_ok-bytes.ensures.writable c.in_ok-bytes.ensures.short c.in_ok-catches.ensures.are)
-    c.attribute-attr.ensures.bytes c.attribute-attr.ensures.catches c.attribute-attr.ensures.attributes
-    c.attribute-attr.ensures.few_operands c.attribute-attr.ensures.few_locals
+    c.attribute-attr.ensures.bytes c.attribute-attr.ensures.catches
+    c.attribute-attr.ensures.attributes c.attribute-attr.ensures.few_operands
+    c.attribute-attr.ensures.few_locals
     (few_entries c.args.pool.now c.catches_of.new.pool (entry_count c.args.code.now)
     (IsConstantOf c.catches_of.new.pool c.args.code.now)
     (whole_added c.args.pool.now c.indices_of.new.pool c.catches_of.new.pool c.args.code.now

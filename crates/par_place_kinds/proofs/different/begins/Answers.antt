@@ -12,7 +12,8 @@ loop-place-preserved c =
     let kinds = c.args.kinds.now in
     let others = c.args.others.now in
     let i = c.loop-place.place in
-    let inside : i < length kinds = omega (arith, c.loop-place-test.true, c.if-others-kinds.false) in
+    let inside : i < length kinds =
+    omega (arith, c.loop-place-test.true, c.if-others-kinds.false) in
     map_more kind_of kinds i Top inside
     ∙ ap (λ (ks : List VKind). ks ++ kind_of (get_or kinds i Top) ∷ []) c.loop-place.invariant
     ∙ ap (λ (k : VKind). kinds_of (take i others) ++ k ∷ []) (c.if-not-is_same.ensures refl)

@@ -4,10 +4,6 @@ use Rattle.par_place_kinds.specs.declared.few.Pair.{Pair}
 use Rattle.par_place_kinds.specs.Marks.{names, kinds_of}
 use Rattle.par_place_kinds.proofs.Numbered.{kept_fits, pair_more}
 use Rattle.par_place_kinds.proofs.few.pairs_into.Goals as goal
-use Rattle.par_place_kinds.proofs.few.pairs_into.Goals.{else-not-is_kept}
-use Rattle.par_place_kinds.proofs.few.pairs_into.Goals.{then-not-is_kept+then-not-is_kept-2+else-not-pair_fits}
-use Rattle.par_place_kinds.proofs.few.pairs_into.Goals.{else-not-is_kept-via-then-not-is_kept+else-not-is_kept-2}
-use Rattle.par_place_kinds.proofs.few.pairs_into.Goals.{else-not-is_kept-via-else-not-is_kept}
 
 pub loop-place-preserved : goal.loop-place-preserved
 loop-place-preserved c =
@@ -21,16 +17,16 @@ loop-place-preserved c =
     _ _ _ _ c.loop-place-test.true inside refl refl before.2 in
     let fits = λ (p : Pair). into exc (kind_at ds p.mine) (kind_at es p.its) ≡ true in
     elim c.if-not-is_kept.branch [
-      | then-not-is_kept+then-not-is_kept-2+else-not-pair_fits w ↦
+      | goal.then-not-is_kept+then-not-is_kept-2+else-not-pair_fits w ↦
           let fit = sym w.pair_fits.ensures ∙ w.if-not-pair_fits.false in
           rw (w.last-is, w.before-is) (fit, before.0, more fit)
-      | else-not-is_kept w ↦
+      | goal.else-not-is_kept w ↦
           elim w.else-not-is_kept.branch [
-            | else-not-is_kept-via-then-not-is_kept+else-not-is_kept-2 w' ↦
+            | goal.else-not-is_kept-via-then-not-is_kept+else-not-is_kept-2 w' ↦
                 let is = w'.is_kept-then-not-is_kept.ensures w'.if-not-is_kept-2.false in
                 rw (w.last-is, w.before-is)
                 (before.0, before.1, more (kept_fits exc fits _ _ before.1 is))
-            | else-not-is_kept-via-else-not-is_kept w' ↦
+            | goal.else-not-is_kept-via-else-not-is_kept w' ↦
                 let is = c.is_kept.ensures w'.if-not-is_kept.false in
                 rw (w.last-is, w.before-is)
                 (before.0, before.1, more (kept_fits exc fits _ _ before.0 is))

@@ -7,4 +7,5 @@ use Rattle.par_references.proofs.texts.put_all_texts.Given as goal
 abbrev pub invariant-loop-file : goal.invariant-loop-file
 invariant-loop-file l =
     texts l.all.items
-    ≡ texts l.fn.all.items ++ flat_map (λ file. texts_in file.pool.entries) (take l.file-index l.files)
+    ≡ texts l.fn.all.items
+    ++ flat_map (λ file. texts_in file.pool.entries) (take l.file-index l.files)

@@ -4,10 +4,6 @@ use Rattle.par_unwinding.specs.Standing.{class_takes}
 use Rattle.par_unwinding.proofs.First.{passed, found, over, both, not-first, not-last}
 use Rattle.par_unwinding.proofs.First.{marked-anew}
 use Rattle.par_unwinding.proofs.catches.first.Goals as goal
-use Rattle.par_unwinding.proofs.catches.first.Goals.{else-covers}
-use Rattle.par_unwinding.proofs.catches.first.Goals.{then-covers+then-not-is_refused+else-is_class_taken}
-use Rattle.par_unwinding.proofs.catches.first.Goals.{else-covers-via-then-covers+else-not-is_refused}
-use Rattle.par_unwinding.proofs.catches.first.Goals.{else-covers-via-else-covers}
 
 none : Catch
 none = record { start = 0; end = 0; handler = 0; class = 0 }
@@ -35,7 +31,7 @@ loop-catch-preserved c =
     let i = c.loop-catch.catch-index in
     let before = c.loop-catch.invariant in
     elim c.if-covers.branch [
-      | then-covers+then-not-is_refused+else-is_class_taken w ↦
+      | goal.then-covers+then-not-is_refused+else-is_class_taken w ↦
           let refuses = sym w.is_class_taken.ensures ∙ w.if-is_class_taken.false in
           record {
             passed = λ method.
@@ -47,9 +43,9 @@ loop-catch-preserved c =
                 before.refuses named
                 (kept named (w.refused-is ∙ w.refuse.ensures) e);
           }
-      | else-covers w ↦
+      | goal.else-covers w ↦
           elim w.else-covers.branch [
-            | else-covers-via-then-covers+else-not-is_refused v ↦
+            | goal.else-covers-via-then-covers+else-not-is_refused v ↦
                 record {
                   passed = λ method.
                       before.passed method
@@ -59,7 +55,7 @@ loop-catch-preserved c =
                       (sym v.is_refused.ensures ∙ v.if-not-is_refused.false)));
                   refuses = λ named e. before.refuses named (kept named w.refused-is e);
                 }
-            | else-covers-via-else-covers v ↦
+            | goal.else-covers-via-else-covers v ↦
                 record {
                   passed = λ method.
                       before.passed method

@@ -16,7 +16,8 @@ judge-fits-requires-clause-small c =
     c.requires.there c.count.ensures.linked site.code.now c.requires.coded
 
 pub judge-fits-requires-clause-many : goal.judge-fits-requires-clause-many
-judge-fits-requires-clause-many c = ap length c.as_mut_slice.ensures.value ∙ c.in_ok-table.ensures.many
+judge-fits-requires-clause-many c =
+    ap length c.as_mut_slice.ensures.value ∙ c.in_ok-table.ensures.many
 
 pub returns : goal.returns
 returns c =
